@@ -1,0 +1,6 @@
+pub mod Bytes
+pub mod Places
+pub mod Named
+pub mod Changes
+pub mod Formats
+pub mod Calls

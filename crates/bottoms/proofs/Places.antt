@@ -1,0 +1,57 @@
+-- Where the places of a block lie: inside the image, after the states, and apart from those of other blocks.
+use mathlib.Core.Path.{_≡_, refl, sym, ap, _∙_}
+use mathlib.Core.List.{List}
+use Prim.Native.Nat.{ℕ, zero, suc, _<_, _+_, _-_, _*_, _/_, _%_, _≤_, min}
+use native.Mathlib.Nat.{zero-mul, mul-add, add-mul, mul-comm, mul-assoc, mul-one, mul-le-mul-left, mul-le-mul-right, div-mul-le-self, min-le-left, min-le-right}
+use native.Mathlib.Omega.{arith}
+use lib.ListN.{length}
+use Rattle.std.proofs.shelf.Bits.{div-add-mod', div-below, mod-below}
+use Rattle.bottoms.specs.Formats.{Format}
+use Rattle.bottoms.specs.Images.{span, blocks-in, count, place-at}
+
+-- the count follows from the length alone
+pub count-same : (F : Format) (m m′ : List ℕ) → length m′ ≡ length m → count F m′ ≡ count F m
+count-same F m m′ e = ap (λ (l : ℕ). blocks-in l (F .places)) e
+
+-- all places of block n end before those of a later block begin
+pub places-before : (p k n : ℕ) → k < n → p * k + p ≤ p * n
+places-before p k n h =
+    let le : k + 1 ≤ n = omega arith in
+    omega (arith, mul-le-mul-left p le, mul-add p k 1, mul-one p)
+
+-- every block below the count has its state and its places inside the image
+pub places-inside : (len p n : ℕ) → n < blocks-in len p → blocks-in len p + 64 * (p * n + p) ≤ len
+places-inside len p n h =
+    let c = blocks-in len p in
+    let le : c ≤ len / span p = min-le-left (len / span p) 1024 in
+    let a : c * span p ≤ len / span p * span p = mul-le-mul-right (span p) le in
+    let b : c * span p ≡ c * 1 + c * (64 * p) = mul-add c 1 (64 * p) in
+    let d : c * (64 * p) ≡ 64 * p * c = mul-comm c (64 * p) in
+    let e : 64 * p * c ≡ 64 * (p * c) = mul-assoc 64 p c in
+    omega (arith, div-mul-le-self len (span p), places-before p n c h, mul-one c)
+
+-- the same for one place
+module _ (F : Format) (m : List ℕ) (n j : ℕ) (lt : n < count F m) (low : j < F .places) where
+  pub place-inside : place-at F (count F m) n j + 64 ≤ length m
+  place-inside = omega (arith, places-inside (length m) (F .places) n lt)
+
+  pub state-before : n < place-at F (count F m) n j
+  state-before = omega arith
+
+-- every byte after the states is one of a place
+pub byte-placed : (F : Format) (c i : ℕ) → c ≤ i → i < span (F .places) * c
+    → (n : ℕ) × (j : ℕ) × (k : ℕ) × (n < c) × (j < F .places) × (k < 64) × (i ≡ place-at F c n j + k)
+byte-placed F c i low high =
+    let p = F .places in
+    let q : ℕ = (i - c) / 64 in
+    let k : ℕ = (i - c) % 64 in
+    let a : span p * c ≡ 1 * c + 64 * p * c = add-mul 1 (64 * p) c in
+    let b : 64 * p * c ≡ 64 * (p * c) = mul-assoc 64 p c in
+    let few : q < p * c = omega arith in
+    let some : 0 < p = positive p c q few in
+    let d : q / p * p + q % p ≡ q = div-add-mod' q p in
+    let e : q / p * p ≡ p * (q / p) = mul-comm (q / p) p in
+    (q / p, q % p, k, div-below q p c some (omega (arith, mul-comm p c)), mod-below q p some, omega arith, omega arith) where
+      positive : (p c q : ℕ) → q < p * c → 0 < p
+      positive zero c q h = absurd (omega (arith, zero-mul c))
+      positive (suc p) c q h = omega arith

@@ -1,0 +1,17 @@
+-- As many blocks are shown as the length has room for, at most 1,024.
+use mathlib.Core.Path.{_≡_, sym, ap, _∙_}
+use Prim.Native.Nat.{ℕ}
+use native.Mathlib.Nat.{min-le-right}
+use native.Mathlib.Omega.{arith}
+use lib.ListN.{length}
+use Rattle.bottoms.specs.Images.{blocks-in}
+use Rattle.bottoms.proofs.Changes.{count-shown}
+use Rattle.bottoms.proofs.card.CardDevice.count.Needs as need
+
+pub returns : need.returns
+returns g c =
+    let m = c .args .self .now .bytes .now in
+    record {
+      count = c .count-blocks .ensures ∙ ap (blocks-in (length m)) (c .places .ensures .count) ∙ sym (count-shown (g .P·Placement .format) m);
+      most = omega arith;
+    }

@@ -1,0 +1,4 @@
+pub mod Formats
+pub mod Images
+pub mod Named
+pub mod Opening

@@ -1,0 +1,57 @@
+// What can go wrong in the program.
+use bottoms::OpenFault;
+use bottoms::Refused;
+use device::DeviceFault;
+use std::alloc::AllocError;
+use std::fmt;
+use std::io;
+
+#[derive(Drop)]
+pub enum Trouble {
+    Open(OpenFault),
+    Device(DeviceFault),
+    Io(io::Error),
+    Memory,
+}
+
+pub impl From<Refused<'_>> for Trouble as TroubleFromRefused {
+    fn from(refused: Refused<'_>) -> Trouble {
+        Trouble::Open(refused.fault)
+    }
+}
+
+pub impl From<DeviceFault> for Trouble as TroubleFromDevice {
+    fn from(fault: DeviceFault) -> Trouble {
+        Trouble::Device(fault)
+    }
+}
+
+pub impl From<AllocError> for Trouble as TroubleFromAlloc {
+    fn from(_: AllocError) -> Trouble {
+        Trouble::Memory
+    }
+}
+
+pub impl From<io::Error> for Trouble as TroubleFromIo {
+    fn from(error: io::Error) -> Trouble {
+        Trouble::Io(error)
+    }
+}
+
+pub impl fmt::Display for Trouble as TroubleDisplay {
+    fn fmt<W: fmt::Write>(&self, f: &mut fmt::Formatter<W>) -> fmt::Result {
+        match self {
+            Trouble::Open(fault) => {
+                let ground = fault.ground();
+                write!(f, "the memory is refused with {ground}")
+            }
+            Trouble::Device(fault) => {
+                let ground = fault.ground();
+                let block = fault.block();
+                write!(f, "block {block} is refused with {ground}")
+            }
+            Trouble::Io(error) => write!(f, "{error}"),
+            Trouble::Memory => write!(f, "there is no memory left"),
+        }
+    }
+}

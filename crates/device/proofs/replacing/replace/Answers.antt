@@ -1,0 +1,49 @@
+-- Both operations run, or the block number is past the count and neither does anything.
+use mathlib.Core.Path.{_≡_, refl, sym, ap, subst, _∙_}
+use mathlib.Core.List.{List, [], _∷_, List·Memᴰ·not-nil}
+use Prim.Native.Nat.{ℕ, _<_, _≤_}
+use native.Mathlib.Omega.{arith}
+use lib.ListN.{length}
+use Rattle.std.proofs.shelf.Results.{err-from-errBy}
+use Rattle.device.specs.Blocks.{_∈_, shown-at}
+use Rattle.device.specs.Answers.{accepted, change-answer}
+use Rattle.device.specs.Operations.{wipe, write, Ran, after}
+use Rattle.device.proofs.Answers.{past-count, within-count, answer-within}
+use Rattle.device.proofs.Operations.{ran-++, ran-past, count-after, replaced-holds}
+use Rattle.device.proofs.replacing.replace.Needs as need
+
+pub returns-in-Break-wipe : need.returns-in-Break-wipe
+returns-in-Break-wipe g c =
+    let n = c .args .n in
+    let x = c .args .s .now in
+    let d = g .D·Device .shown (c .args .device .now) in
+    let h = g .D·Device .held (c .args .device .now) in
+    let d′ = g .D·Device .shown (c .wipe .last .self) in
+    let h′ = g .D·Device .held (c .wipe .last .self) in
+    let past : length d ≤ n = past-count d n _ _ (c .in-Break-wipe .ensures tt .answer) in
+    let len : length d′ ≤ n = omega (arith, ap length (c .wipe .ensures .effect .shows), count-after (wipe n) d) in
+    let p = err-from-errBy (c .from-residual .result) (c .from-residual .ensures .1) in
+    rw (p .1, p .2) (record {
+      answer = c .in-Break-wipe .ensures tt .answer;
+      effect = ran-++ (wipe n ∷ []) (write n x ∷ []) d d′ d′ h h′ h′ (c .wipe .ensures .effect) (ran-past (write n x) d′ h′ len);
+      nothing = λ l. absurd (omega arith);
+    })
+
+pub returns : need.returns
+returns g c =
+    let n = c .args .n in
+    let x = c .args .s .now in
+    let d = g .D·Device .shown (c .args .device .now) in
+    let h = g .D·Device .held (c .args .device .now) in
+    let d′ = g .D·Device .shown (c .wipe .last .self) in
+    let h′ = g .D·Device .held (c .wipe .last .self) in
+    let d″ = g .D·Device .shown (c .write .last .self) in
+    let h″ = g .D·Device .held (c .write .last .self) in
+    let within : n < length d = within-count d n (c .in-Continue-wipe .ensures tt .answer) in
+    let len : n < length d′ = omega (arith, ap length (c .wipe .ensures .effect .shows), count-after (wipe n) d) in
+    let run : Ran (wipe n ∷ write n x ∷ []) d h d″ h″ = ran-++ (wipe n ∷ []) (write n x ∷ []) d d′ d″ h h′ h″ (c .wipe .ensures .effect) (c .write .ensures .effect) in
+    record {
+      answer = c .write .ensures .answer ∙ answer-within d′ n (accepted tt) len ∙ sym (answer-within d n (accepted tt) within);
+      effect = run;
+      nothing = λ l s m. List·Memᴰ·not-nil (subst (λ (z : List (List ℕ)). s ∈ z) (replaced-holds n (shown-at d n) x (h n)) (run .holds n l s m));
+    }
