@@ -1,6 +1,8 @@
 -- The clauses of a call that names block n: past the count, and below it where the code has found the block.
 use mathlib.Core.Path.{_≡_, refl, sym, ap, subst, _∙_}
 use mathlib.Core.List.{List, [], _∷_, map}
+use mathlib.Core.Logic.{⊎-elim}
+use mathlib.Core.Bool.{true, false, cond}
 use Prim.Native.Nat.{ℕ, _<_, _+_, _*_, _/_, _≤_}
 use native.Mathlib.Omega.{arith}
 use lib.ListN.{length, take, drop, set, replicate}
@@ -10,49 +12,50 @@ use Rattle.std.specs.Iters.{counting}
 use Rattle.std.specs.Options.{Cases}
 use Rattle.std.specs.declared.option.Option.{Option}
 use Rattle.std.specs.declared.option.Option.the-variants.{Some, None}
+use Rattle.std.specs.declared.result.Result.the-variants.{Ok, Err}
 use Rattle.std.specs.shelf.Lists.{kept-by}
 use Rattle.std.proofs.shelf.Lists.{length-map, length-take-le, length-drop, length-replicate}
-use Rattle.std.proofs.shelf.Tests.{cond-true, cond-false, lt-ltb, le-ltb}
+use Rattle.std.proofs.shelf.Tests.{cases-bool, cond-true, cond-false, lt-ltb, le-ltb}
 use Rattle.device.specs.Answers.{Answer, accepted, refused, of-block, change-answer, read-block, read-answer, filled, read-buffer}
 use Rattle.device.specs.Blocks.{Shown, shown-at}
 use Rattle.device.specs.Operations.{Op, write, wipe, lose}
 use Rattle.device.proofs.Answers.{answer-within, answer-past, read-within, buffer-within, buffer-past}
 use Rattle.bottoms.specs.Formats.{Format, Lawful}
-use Rattle.bottoms.specs.Images.{Located, count, state, place-at, place, place-in, showing, block, shown, counts, held, if-block, overwritten, Runs}
+use Rattle.bottoms.specs.Images.{Located, count, state, place-at, place, place-in, showing, block, image-shown, counts, image-held, if-block, overwritten, Runs}
+use Rattle.bottoms.specs.Opening.{opened, rejected, fits, size-answer, opening}
+use Rattle.bottoms.specs.declared.fault.OpenFault.the-variants.{WrongMemory}
 use Rattle.bottoms.proofs.Bytes.{part-lent, put-is, zeros-are}
 use Rattle.bottoms.proofs.Changes.{count-shown, showing-same}
 use Rattle.bottoms.proofs.Named.{held-same, shown-block}
+use Rattle.bottoms.proofs.Places.{count-fits}
 
-module _ (F : Format) (m : List ℕ) (n : ℕ) where
-  pub past-answer : {A : Type 0} (a : Answer A) → count F m ≤ n → refused 1 n ≡ of-block (shown F m) n a
-  past-answer a h = sym (answer-past (shown F m) n a (omega (arith, count-shown F m)))
+-- block n is past the count
+module _ (F : Format) (m : List ℕ) (n : ℕ) (past : length (image-shown F m) ≤ n) where
+  pub past-answer : {A : Type 0} (a : Answer A) → refused 1 n ≡ of-block (image-shown F m) n a
+  past-answer a = sym (answer-past (image-shown F m) n a past)
 
-  pub within-answer : {A : Type 0} (a : Answer A) → n < count F m → a ≡ of-block (shown F m) n a
-  within-answer a h = sym (answer-within (shown F m) n a (omega (arith, count-shown F m)))
+  pub past-read : (buffer : List ℕ) → (refused 1 n ≡ read-answer (image-shown F m) n) × (buffer ≡ read-buffer (image-shown F m) n buffer)
+  past-read buffer = (past-answer (read-block n (shown-at (image-shown F m) n)), sym (buffer-past (image-shown F m) n buffer past))
 
-  pub past-read : (buffer : List ℕ) → count F m ≤ n → (refused 1 n ≡ read-answer (shown F m) n) × (buffer ≡ read-buffer (shown F m) n buffer)
-  past-read buffer h = (past-answer (read-block n (shown-at (shown F m) n)) h, sym (buffer-past (shown F m) n buffer (omega (arith, count-shown F m))))
+  -- a change that would make m₁ of the image
+  pub past-call : (o : Op) (m₁ : List ℕ) → Runs F (o ∷ []) m (if-block F m n m₁) → (refused 1 n ≡ change-answer (image-shown F m) n) × Runs F (o ∷ []) m m × (m ≡ if-block F m n m₁)
+  past-call o m₁ run = (past-answer (accepted tt), subst (Runs F (o ∷ []) m) (sym same) run, same) where
+    same : m ≡ if-block F m n m₁
+    same = sym (cond-false (ltb n (count F m)) m₁ m (le-ltb n (count F m) (omega (arith, count-shown F m))))
 
-  -- a change that makes m₁ of the image
-  module _ (o : Op) (m₁ : List ℕ) (run : Runs F (o ∷ []) m (if-block F m n m₁)) where
-    pub past-call : count F m ≤ n → (refused 1 n ≡ change-answer (shown F m) n) × Runs F (o ∷ []) m m × (m ≡ if-block F m n m₁)
-    past-call h = (past-answer (accepted tt) h, subst (Runs F (o ∷ []) m) (sym same) run, same) where
-      same : m ≡ if-block F m n m₁
-      same = sym (cond-false (ltb n (count F m)) m₁ m (le-ltb n (count F m) h))
+-- the code has found the state of block n at i and its first place at a
+module _ (F : Format) (m : List ℕ) (n i a : ℕ) (found : Located (length m) (F .places) n i a) where
+  below : n < length (image-shown F m)
+  below = omega (arith, found .below, count-shown F m)
 
-    -- m′ is the image as the code has it
-    pub within-call : (m′ : List ℕ) → m′ ≡ m₁ → n < count F m → (accepted tt ≡ change-answer (shown F m) n) × Runs F (o ∷ []) m m′ × (m′ ≡ if-block F m n m₁)
-    within-call m′ e h = (within-answer (accepted tt) h, subst (Runs F (o ∷ []) m) (sym same) run, same) where
-      same : m′ ≡ if-block F m n m₁
-      same = e ∙ sym (cond-true (ltb n (count F m)) m₁ m (lt-ltb n (count F m) h))
+  pub within-answer : {A : Type 0} (a : Answer A) → a ≡ of-block (image-shown F m) n a
+  within-answer a = sym (answer-within (image-shown F m) n a below)
 
--- the code has p places for a block, the state of block n at i and its first place at a
-module _ (F : Format) (m : List ℕ) (n p i a : ℕ) (few : p ≡ F .places) (code : Located (length m) p n i a) where
-  found : Located (length m) (F .places) n i a
-  found = subst (λ (q : ℕ). Located (length m) q n i a) few code
-
-  pub below : n < count F m
-  below = found .below
+  -- a change that makes m₁ of the image, which the code has as m′
+  pub within-call : (o : Op) (m₁ m′ : List ℕ) → Runs F (o ∷ []) m (if-block F m n m₁) → m′ ≡ m₁ → (accepted tt ≡ change-answer (image-shown F m) n) × Runs F (o ∷ []) m m′ × (m′ ≡ if-block F m n m₁)
+  within-call o m₁ m′ run e = (within-answer (accepted tt), subst (Runs F (o ∷ []) m) (sym same) run, same) where
+    same : m′ ≡ if-block F m n m₁
+    same = e ∙ sym (cond-true (ltb n (count F m)) m₁ m (lt-ltb n (count F m) (found .below)))
 
   pub wrote-is : (v w k : ℕ) (ys s : List ℕ) → v ≡ F .next (state m i) → w ≡ v → ys ≡ s → length s ≡ k
       → putMid (a + 64 * w) k (set m i v) ys ≡ overwritten (place-at F (count F m) n (F .next (state m n))) s (set m n (F .next (state m n)))
@@ -60,7 +63,7 @@ module _ (F : Format) (m : List ℕ) (n p i a : ℕ) (few : p ≡ F .places) (co
       let e : v ≡ F .next (state m n) = next ∙ ap (λ (j : ℕ). F .next (state m j)) (found .index) in
       put-is (a + 64 * w) _ k i n v _ m ys s (omega (arith, found .start)) (found .index) e filled len
 
-  pub wiped-is : (k l : ℕ) (ys : List ℕ) → k ≡ 64 * p → ys ≡ replicate l 0 → length ys ≡ k
+  pub wiped-is : (k l : ℕ) (ys : List ℕ) → k ≡ 64 * F .places → ys ≡ replicate l 0 → length ys ≡ k
       → putMid a k (set m i 0) ys ≡ overwritten (place-at F (count F m) n 0) (replicate (64 * F .places) 0) (set m n 0)
   wiped-is k l ys wide zeros len =
       put-is a _ k i n 0 0 m ys (replicate (64 * F .places) 0) (omega (arith, found .start)) (found .index) refl
@@ -70,7 +73,7 @@ module _ (F : Format) (m : List ℕ) (n p i a : ℕ) (few : p ≡ F .places) (co
   marked-is v e = let at : i ≡ n = found .index in cc
 
   -- the k bytes of the places, lent, and the place o that the state shows
-  module _ (laws : Lawful F) (k : ℕ) (o : Option ℕ) (wide : k ≡ 64 * p) (says : o ≡ F .shows (state m i)) where
+  module _ (laws : Lawful F) (k : ℕ) (o : Option ℕ) (wide : k ≡ 64 * F .places) (says : o ≡ F .shows (state m i)) where
     abbrev lent : List ℕ
     lent = take k (drop a m)
 
@@ -94,17 +97,30 @@ module _ (F : Format) (m : List ℕ) (n p i a : ℕ) (few : p ≡ F .places) (co
       inside None e = tt
       inside (Some j) e = omega (arith, laws .shows-below (state m i) j (sym e), long)
 
-    pub read-call : (buffer : List ℕ) → (read-block n (showing (place-in lent) o) ≡ read-answer (shown F m) n) × (filled (showing (place-in lent) o) buffer ≡ read-buffer (shown F m) n buffer)
+    pub read-call : (buffer : List ℕ) → (read-block n (showing (place-in lent) o) ≡ read-answer (image-shown F m) n) × (filled (showing (place-in lent) o) buffer ≡ read-buffer (image-shown F m) n buffer)
     read-call buffer =
-        let e = shown-block F m n below in (
-          ap (read-block n) same-block ∙ sym (read-within (shown F m) n (block F m n) (omega (arith, below, count-shown F m)) e),
-          ap (λ (b : Shown). filled b buffer) same-block ∙ sym (buffer-within (shown F m) n (block F m n) buffer e),
+        let e = shown-block F m n (found .below) in (
+          ap (read-block n) same-block ∙ sym (read-within (image-shown F m) n (block F m n) below e),
+          ap (λ (b : Shown). filled b buffer) same-block ∙ sym (buffer-within (image-shown F m) n (block F m n) buffer e),
         )
 
-    pub held-call : length (kept-by (counts (place-in lent) o) (counting 0 (length lent / 64))) ≡ length (held F m n)
+    pub held-call : length (kept-by (counts (place-in lent) o) (counting 0 (length lent / 64))) ≡ length (image-held F m n)
     held-call =
         let e : length lent / 64 ≡ F .places = omega (arith, long) in
         ap (λ (q : ℕ). length (kept-by (counts (place-in lent) o) (counting 0 q))) e
         ∙ sym (length-map (kept-by (counts (place-in lent) o) (counting 0 (F .places))) (place-in lent))
         ∙ ap length (held-same (F .places) (place-in lent) (place F m n) o same-place)
         ∙ ap (λ (x : Option ℕ). length (map (place F m n) (kept-by (counts (place F m n) x) (counting 0 (F .places))))) says-here
+
+-- memory that the code accepted, with p places for a block
+pub opened-call : (F : Format) (m : List ℕ) (n p : ℕ) → p ≡ F .places → Ok tt ≡ size-answer p (length m) n
+    → (opened m ≡ opening F m n) × (length (image-shown F m) ≡ n)
+opened-call F m n p few e =
+    ⊎-elim
+    (λ (t : fits p (length m) n ≡ true).
+    let f : fits (F .places) (length m) n ≡ true = subst (λ (q : ℕ). fits q (length m) n ≡ true) few t in
+    (sym (cond-true (fits (F .places) (length m) n) (opened m) (rejected 2 m) f), count-shown F m ∙ count-fits (F .places) (length m) n f))
+    (λ (t : fits p (length m) n ≡ false).
+    let k : size-answer p (length m) n ≡ Err WrongMemory = cond-false (fits p (length m) n) (Ok tt) (Err WrongMemory) t in
+    let z : _≡_ {A = ℕ} 0 1 = cc in absurd (omega arith))
+    (cases-bool (fits p (length m) n))

@@ -18,13 +18,13 @@ use Rattle.device.specs.Blocks.{Shown, lost, sector, shown-at, _∈_, blank, is
 use Rattle.device.specs.Operations.{Op, write, wipe, lose, target, result, left-by, may-hold, Ran}
 use Rattle.device.proofs.Operations.{ran-past}
 use Rattle.bottoms.specs.Formats.{Format, Lawful}
-use Rattle.bottoms.specs.Images.{count, state, part, place-at, place, showing, block, shown, hidden, counts, held, overwritten, if-block, write-image, wipe-image, mark-image, Runs}
+use Rattle.bottoms.specs.Images.{count, state, part, place-at, place, showing, block, image-shown, hidden, counts, image-held, overwritten, if-block, write-image, wipe-image, mark-image, Runs}
 use Rattle.bottoms.proofs.Bytes.{part-set, length-over, byte-over-before, part-over-before, part-over-after, part-over-inside}
 use Rattle.bottoms.proofs.Named.{held-same, held-blank, in-held, place-joined, shown-block}
 use Rattle.bottoms.proofs.Places.{count-same, places-before, places-inside}
 
 -- as many blocks are shown as there are
-pub count-shown : (F : Format) (m : List ℕ) → length (shown F m) ≡ count F m
+pub count-shown : (F : Format) (m : List ℕ) → length (image-shown F m) ≡ count F m
 count-shown F m = length-map-counting (block F m) 0 (count F m)
 
 -- a list made from a function, and one that differs from it at n alone
@@ -55,30 +55,30 @@ module _ (F : Format) (laws : Lawful F) (m m′ : List ℕ) (n : ℕ) (len : len
       ap (λ (s : ℕ). showing (place F m′ k) (F .shows s)) (states k h ne)
       ∙ showing-same (place F m′ k) (place F m k) (F .shows (state m k)) (λ j e. places k j h ne (laws .shows-below (state m k) j e))
 
-  held-there : (k : ℕ) → k < count F m → (k ≡ n → ⊥) → held F m′ k ≡ held F m k
+  held-there : (k : ℕ) → k < count F m → (k ≡ n → ⊥) → image-held F m′ k ≡ image-held F m k
   held-there k h ne =
       ap (λ (s : ℕ). map (place F m′ k) (kept-by (counts (place F m′ k) (F .shows s)) (counting 0 (F .places)))) (states k h ne)
       ∙ held-same (F .places) (place F m′ k) (place F m k) (F .shows (state m k)) (λ j low. places k j h ne low)
 
   -- the operation that block n went through
-  runs-op : (o : Op) → target o ≡ n → block F m′ n ≡ result o → ((s : List ℕ) → s ∈ held F m′ n → s ∈ left-by o (block F m n) (held F m n)) → Runs F (o ∷ []) m m′
+  runs-op : (o : Op) → target o ≡ n → block F m′ n ≡ result o → ((s : List ℕ) → s ∈ image-held F m′ n → s ∈ left-by o (block F m n) (image-held F m n)) → Runs F (o ∷ []) m m′
   runs-op o to here kept = record { shows = shows; holds = holds } where
-    shows : shown F m′ ≡ set (shown F m) (target o) (result o)
+    shows : image-shown F m′ ≡ set (image-shown F m) (target o) (result o)
     shows =
         ap (λ (c : ℕ). map (block F m′) (counting 0 c)) (count-same F m m′ len)
         ∙ one-changed (block F m) (block F m′) (count F m) n block-there
-        ∙ ap (set (shown F m) n) here ∙ ap (λ (k : ℕ). set (shown F m) k (result o)) (sym to)
+        ∙ ap (set (image-shown F m) n) here ∙ ap (λ (k : ℕ). set (image-shown F m) k (result o)) (sym to)
 
-    holds : (k : ℕ) → k < length (shown F m) → (s : List ℕ) → s ∈ held F m′ k → s ∈ may-hold o k (shown-at (shown F m) k) (held F m k)
+    holds : (k : ℕ) → k < length (image-shown F m) → (s : List ℕ) → s ∈ image-held F m′ k → s ∈ may-hold o k (shown-at (image-shown F m) k) (image-held F m k)
     holds k h s i =
         let low : k < count F m = omega (arith, count-shown F m) in
         ⊎-elim
         (λ (e : k ≡ n).
-        let at : shown-at (shown F m) k ≡ block F m k = shown-block F m k low in
-        let c : may-hold o k (shown-at (shown F m) k) (held F m k) ≡ left-by o (block F m k) (held F m k) = cond-true (eqb k (target o)) (left-by o (shown-at (shown F m) k) (held F m k)) (held F m k) (eq-eqb k (target o) (e ∙ sym to)) ∙ ap (λ (x : Shown). left-by o x (held F m k)) at in
-        subst (λ (l : List (List ℕ)). s ∈ l) (sym c) (subst (λ (x : ℕ). s ∈ left-by o (block F m x) (held F m x)) (sym e) (kept s (subst (λ (x : ℕ). s ∈ held F m′ x) e i))))
+        let at : shown-at (image-shown F m) k ≡ block F m k = shown-block F m k low in
+        let c : may-hold o k (shown-at (image-shown F m) k) (image-held F m k) ≡ left-by o (block F m k) (image-held F m k) = cond-true (eqb k (target o)) (left-by o (shown-at (image-shown F m) k) (image-held F m k)) (image-held F m k) (eq-eqb k (target o) (e ∙ sym to)) ∙ ap (λ (x : Shown). left-by o x (image-held F m k)) at in
+        subst (λ (l : List (List ℕ)). s ∈ l) (sym c) (subst (λ (x : ℕ). s ∈ left-by o (block F m x) (image-held F m x)) (sym e) (kept s (subst (λ (x : ℕ). s ∈ image-held F m′ x) e i))))
         (λ (ne : k ≡ n → ⊥).
-        let c : may-hold o k (shown-at (shown F m) k) (held F m k) ≡ held F m k = cond-false (eqb k (target o)) (left-by o (shown-at (shown F m) k) (held F m k)) (held F m k) (ne-eqb k (target o) (λ e. ne (e ∙ to))) in
+        let c : may-hold o k (shown-at (image-shown F m) k) (image-held F m k) ≡ image-held F m k = cond-false (eqb k (target o)) (left-by o (shown-at (image-shown F m) k) (image-held F m k)) (image-held F m k) (ne-eqb k (target o) (λ e. ne (e ∙ to))) in
         subst (λ (l : List (List ℕ)). s ∈ l) (sym c) (subst (λ (l : List (List ℕ)). s ∈ l) (held-there k low ne) i))
         (cases-eq k n)
 
@@ -102,7 +102,7 @@ module _ (F : Format) (laws : Lawful F) (m : List ℕ) (n : ℕ) (lt : n < count
 
   -- a place that stays as it was and isn't shown any more is one that the block may hold
   stays-joined : (m′ : List ℕ) (o : Option ℕ) → F .shows (state m′ n) ≡ o → ((j : ℕ) → j < F .places → hidden o j ≡ true → place F m′ n j ≡ place F m n j)
-      → (s : List ℕ) → s ∈ held F m′ n → s ∈ left-by (lose n) (block F m n) (held F m n)
+      → (s : List ℕ) → s ∈ image-held F m′ n → s ∈ left-by (lose n) (block F m n) (image-held F m n)
   stays-joined m′ o e same s i =
       let r = in-held (F .places) (place F m′ n) (F .shows (state m′ n)) s i in
       place-joined F m n (r .0) s (r .1) (r .3 ∙ same (r .0) (r .1) (subst (λ (x : Option ℕ). hidden x (r .0) ≡ true) e (r .2))) (r .4)
@@ -216,7 +216,7 @@ module _ (F : Format) (m m′ : List ℕ) (n : ℕ) (o : Op) (to : target o ≡ 
   if-runs =
       cond-both (ltb n (count F m)) m′ m (Runs F (o ∷ []) m)
       (λ t. run (ltb-true n (count F m) t))
-      (λ t. ran-past o (shown F m) (held F m) (omega (arith, ltb-false n (count F m) t, count-shown F m)))
+      (λ t. ran-past o (image-shown F m) (image-held F m) (omega (arith, ltb-false n (count F m) t, count-shown F m)))
 
 -- each call's image is what its operation makes of what is shown and held
 module _ (F : Format) (laws : Lawful F) (m : List ℕ) (n : ℕ) where

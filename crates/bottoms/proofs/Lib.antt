@@ -2,5 +2,4 @@ pub mod Bytes
 pub mod Places
 pub mod Named
 pub mod Changes
-pub mod Formats
 pub mod Calls

@@ -17,7 +17,7 @@ use Rattle.std.specs.declared.option.Option.the-variants.{Some, None}
 use Rattle.device.specs.Blocks.{Shown, lost, sector, shown-at, _∈_, is-blank}
 use Rattle.device.specs.Operations.{joined}
 use Rattle.bottoms.specs.Formats.{Format}
-use Rattle.bottoms.specs.Images.{count, state, place, showing, block, shown, hidden, counts, held}
+use Rattle.bottoms.specs.Images.{count, state, place, showing, block, image-shown, hidden, counts, image-held}
 use Rattle.bottoms.specs.Named.{Named}
 use Rattle.bottoms.proofs.Places.{byte-placed}
 
@@ -121,7 +121,7 @@ not-hidden (Some k) j h = ap Some (sym (eqb-true j k (not-false (eqb j k) h)))
 
 module _ (F : Format) (m : List ℕ) (n : ℕ) where
   -- a place that isn't blank is shown or held
-  place-named : (j : ℕ) → j < F .places → is-blank (place F m n j) ≡ false → (block F m n ≡ sector (place F m n j)) ⊎ (place F m n j ∈ held F m n)
+  place-named : (j : ℕ) → j < F .places → is-blank (place F m n j) ≡ false → (block F m n ≡ sector (place F m n j)) ⊎ (place F m n j ∈ image-held F m n)
   place-named j low b =
       ⊎-elim
       (λ (t : hidden (F .shows (state m n)) j ≡ true). inr (held-in (F .places) (place F m n) (F .shows (state m n)) j low t b))
@@ -129,19 +129,19 @@ module _ (F : Format) (m : List ℕ) (n : ℕ) where
       (cases-bool (hidden (F .shows (state m n)) j))
 
   -- so it is among what the block may hold once it shows something else
-  pub place-joined : (j : ℕ) (s : List ℕ) → j < F .places → s ≡ place F m n j → is-blank s ≡ false → s ∈ joined (block F m n) (held F m n)
+  pub place-joined : (j : ℕ) (s : List ℕ) → j < F .places → s ≡ place F m n j → is-blank s ≡ false → s ∈ joined (block F m n) (image-held F m n)
   place-joined j s low e b =
       ⊎-elim
       (λ (q : block F m n ≡ sector (place F m n j)).
-      subst (λ (c : Shown). s ∈ joined c (held F m n)) (sym q)
-      (subst (λ (l : List (List ℕ)). s ∈ l) (sym (cond-false (is-blank (place F m n j)) (held F m n) (place F m n j ∷ held F m n) (ap is-blank (sym e) ∙ b))) (List·Memᴰ·head e)))
-      (λ (i : place F m n j ∈ held F m n). joined-in (block F m n) (held F m n) s (subst (λ (x : List ℕ). x ∈ held F m n) (sym e) i))
+      subst (λ (c : Shown). s ∈ joined c (image-held F m n)) (sym q)
+      (subst (λ (l : List (List ℕ)). s ∈ l) (sym (cond-false (is-blank (place F m n j)) (image-held F m n) (place F m n j ∷ image-held F m n) (ap is-blank (sym e) ∙ b))) (List·Memᴰ·head e)))
+      (λ (i : place F m n j ∈ image-held F m n). joined-in (block F m n) (image-held F m n) s (subst (λ (x : List ℕ). x ∈ image-held F m n) (sym e) i))
       (place-named j low (ap is-blank (sym e) ∙ b)) where
         joined-in : (c : Shown) (kept : List (List ℕ)) (x : List ℕ) → x ∈ kept → x ∈ joined c kept
         joined-in lost kept x i = i
         joined-in (sector y) kept x i = elim (is-blank y) as (λ t. x ∈ cond t kept (y ∷ kept)) [ true ↦ i | false ↦ List·Memᴰ·tail i ]
 
-pub shown-block : (F : Format) (m : List ℕ) (n : ℕ) → n < count F m → shown-at (shown F m) n ≡ block F m n
+pub shown-block : (F : Format) (m : List ℕ) (n : ℕ) → n < count F m → shown-at (image-shown F m) n ≡ block F m n
 shown-block F m n h = getD-map-counting (block F m) 0 (count F m) n n lost h (omega arith)
 
 pub image-named : (F : Format) (m : List ℕ) → Named F m

@@ -1,17 +1,33 @@
 -- Where the places of a block lie: inside the image, after the states, and apart from those of other blocks.
 use mathlib.Core.Path.{_≡_, refl, sym, ap, _∙_}
 use mathlib.Core.List.{List}
+use mathlib.Core.Bool.{true, _&&_}
 use Prim.Native.Nat.{ℕ, zero, suc, _<_, _+_, _-_, _*_, _/_, _%_, _≤_, min}
-use native.Mathlib.Nat.{zero-mul, mul-add, add-mul, mul-comm, mul-assoc, mul-one, mul-le-mul-left, mul-le-mul-right, div-mul-le-self, min-le-left, min-le-right}
+use native.Mathlib.Nat.{zero-mul, one-mul, mul-add, add-mul, mul-comm, mul-assoc, mul-one, mul-le-mul-left, mul-le-mul-right, div-mul-le-self, min-le-left, min-le-right}
 use native.Mathlib.Omega.{arith}
 use lib.ListN.{length}
-use Rattle.std.proofs.shelf.Bits.{div-add-mod', div-below, mod-below}
+use lib.Dec.{eqb, leb}
+use Rattle.std.proofs.shelf.Bits.{div-add-mod', div-below, le-div, mod-below}
+use Rattle.std.proofs.shelf.Tests.{and-parts, eqb-true, leb-true}
 use Rattle.bottoms.specs.Formats.{Format}
 use Rattle.bottoms.specs.Images.{span, blocks-in, count, place-at}
+use Rattle.bottoms.specs.Opening.{fits}
 
 -- the count follows from the length alone
 pub count-same : (F : Format) (m m′ : List ℕ) → length m′ ≡ length m → count F m′ ≡ count F m
 count-same F m m′ e = ap (λ (l : ℕ). blocks-in l (F .places)) e
+
+-- memory that opens as n blocks has n blocks
+pub count-fits : (places len n : ℕ) → fits places len n ≡ true → blocks-in len places ≡ n
+count-fits places len n h =
+    let a = and-parts (leb 1 n) (leb n 1024 && eqb len (span places * n)) h in
+    let b = and-parts (leb n 1024) (eqb len (span places * n)) (a .1) in
+    let e : len ≡ span places * n = eqb-true len (span places * n) (b .1) in
+    let s : 0 < span places = omega arith in
+    let c : n * span places ≡ span places * n = mul-comm n (span places) in
+    let low : n ≤ len / span places = le-div n len (span places) s (omega arith) in
+    let high : len / span places < n + 1 = div-below len (span places) (n + 1) s (omega (arith, add-mul n 1 (span places), one-mul (span places))) in
+    omega (arith, leb-true n 1024 (b .0))
 
 -- all places of block n end before those of a later block begin
 pub places-before : (p k n : ℕ) → k < n → p * k + p ≤ p * n

@@ -60,8 +60,8 @@ abbrev pub block : Format → List ℕ → ℕ → Shown
 block F m n = showing (place F m n) (F .shows (state m n))
 
 -- what the image shows, block by block
-abbrev pub shown : Format → List ℕ → List Shown
-shown F m = map (block F m) (counting 0 (count F m))
+abbrev pub image-shown : Format → List ℕ → List Shown
+image-shown F m = map (block F m) (counting 0 (count F m))
 
 -- place j isn't the one shown
 abbrev pub hidden : Option ℕ → ℕ → Bool
@@ -73,12 +73,12 @@ abbrev pub counts : (ℕ → List ℕ) → Option ℕ → ℕ → Bool
 counts at shows j = hidden shows j && not (is-blank (at j))
 
 -- what the image holds for block n, in the order of the places
-abbrev pub held : Format → List ℕ → Held
-held F m n = map (place F m n) (kept-by (counts (place F m n) (F .shows (state m n))) (counting 0 (F .places)))
+abbrev pub image-held : Format → List ℕ → Held
+image-held F m n = map (place F m n) (kept-by (counts (place F m n) (F .shows (state m n))) (counting 0 (F .places)))
 
 -- operations that an image goes through, from m to m′, by what it shows and holds
 abbrev pub Runs : Format → List Op → List ℕ → List ℕ → Type 0
-Runs F os m m′ = Ran os (shown F m) (held F m) (shown F m′) (held F m′)
+Runs F os m m′ = Ran os (image-shown F m) (image-held F m) (image-shown F m′) (image-held F m′)
 
 -- bytes written over others from `at` on
 abbrev pub overwritten : ℕ → List ℕ → List ℕ → List ℕ

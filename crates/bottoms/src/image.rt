@@ -1,19 +1,17 @@
 // The bytes of a card: a state byte for each block, then for each block its places of 64 bytes.
 ghost use Prim.Native.Nat.{ℕ, _+_, _*_, _/_, _<_, _≤_};
 ghost use mathlib.Core.Path.{_≡_};
-ghost use mathlib.Core.Bool.{true, false, cond};
-ghost use lib.ListN.{length, replicate, take, drop};
+ghost use lib.Dec.{ltb};
+ghost use lib.ListN.{length, replicate};
 ghost use Rattle.std.specs.Iters.{counting};
 ghost use Rattle.std.specs.Options.{Cases as BySome};
 ghost use Rattle.std.specs.Results.{Cases};
 ghost use Rattle.std.specs.shelf.Lists.{kept-by};
-ghost use Rattle.std.specs.declared.result.Result.the-variants.{Ok, Err};
 ghost use Rattle.device.specs.declared.fault.DeviceFault.the-variants.{NoBlock};
 ghost use Rattle.device.specs.Blocks.{is-blank};
 ghost use Rattle.device.specs.Answers.{answer-of, read-block, filled};
 ghost use Rattle.bottoms.specs.Images.{blocks-in, Located, place-in, showing, hidden, counts};
-ghost use Rattle.bottoms.specs.Opening.{fits};
-ghost use Rattle.bottoms.specs.declared.fault.OpenFault.the-variants.{WrongMemory};
+ghost use Rattle.bottoms.specs.Opening.{size-answer};
 use crate::fault::OpenFault;
 use device::DeviceFault;
 use device::Sector;
@@ -21,7 +19,7 @@ use device::Sector;
 // Whether so many bytes are the image of so many blocks.
 pub(crate) fn check_size(len: usize, places: usize, count: u32) -> Result<(), OpenFault>
     requires { ⌜ places ≤ 4 ⌝ }
-    ensures { λ r. ⌜ r ≡ cond (fits places len count) (Ok tt) (Err WrongMemory) ⌝ }
+    ensures { λ r. ⌜ r ≡ size-answer places len count ⌝ }
 {
     if count < 1 || count > 1024 {
         return Err(OpenFault::WrongMemory);
@@ -40,13 +38,20 @@ pub(crate) fn count_blocks(len: usize, places: usize) -> u32
     (len / (1 + 64 * places)).min(1024) as u32
 }
 
+// Whether there is a block n.
+fn is_below(n: u32, count: u32) -> bool
+    ensures { λ r. ⌜ r ≡ ltb n count ⌝ }
+{
+    n < count
+}
+
 // Block n among so many bytes: the index of its state, and where its first place begins.
 pub(crate) fn locate(len: usize, places: usize, n: u32) -> Result<(usize, usize), DeviceFault>
     requires { ⌜ places ≤ 4 ⌝ }
     ensures { λ r. ⌜ Cases r (λ p. Located len places n (p .0) (p .1)) (λ f. (blocks-in len places ≤ n) × (f ≡ NoBlock n)) ⌝ }
 {
     let count = count_blocks(len, places);
-    if n >= count {
+    if !is_below(n, count) {
         return Err(DeviceFault::NoBlock(n));
     }
     let i = n as usize;

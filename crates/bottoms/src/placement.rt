@@ -28,6 +28,9 @@ pub trait Placement: Copy + Default {
         ensures { λ r. ⌜ r ≡ format .marked state ⌝ };
 }
 
+// the state of a lost block that is kept in place
+const LOST: u8 = 1;
+
 // One place, which is written over. State 0 is sound, and any other is lost.
 #[derive(Clone, Copy, Default)]
 pub struct InPlace;
@@ -48,7 +51,7 @@ pub impl Placement for InPlace as InPlacePlacement {
     }
 
     fn marked(&self, _state: u8) -> u8 {
-        1
+        LOST
     }
 }
 

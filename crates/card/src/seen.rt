@@ -1,7 +1,8 @@
 // What reading a block shows, for a person.
-use bottoms::Card;
-use bottoms::CardDevice;
-use bottoms::Placement;
+ghost use mathlib.Core.Path.{_≡_};
+ghost use mathlib.Core.List.{[]};
+ghost use Rattle.device.specs.Operations.{Ran};
+ghost use Rattle.card.specs.Seen.{seen-at, text-of, padded};
 use device::BLANK;
 use device::Device;
 use device::DeviceFault;
@@ -15,9 +16,13 @@ pub enum Seen {
 }
 
 impl Seen {
-    pub fn read<P: Placement>(card: &mut Card<P>, n: u32) -> Seen {
+    // What block n shows. The device is as it was.
+    pub fn read<D: Device>(device: &mut D, n: u32) -> Seen
+        ensures value { λ r. ⌜ r ≡ seen-at (shown (now (device .entry))) n ⌝ }
+        ensures effect { λ _. ⌜ Ran [] (shown (now (device .entry))) (held (now (device .entry))) (shown (now (device .exit))) (held (now (device .exit))) ⌝ }
+    {
         let mut sector = BLANK;
-        match card.read(n, &mut sector) {
+        match device.read(n, &mut sector) {
             Ok(()) => Seen::Sector(sector),
             Err(fault) => Seen::Refused(fault),
         }
@@ -25,7 +30,9 @@ impl Seen {
 }
 
 // The bytes before the first zero.
-fn text_in(sector: &Sector) -> &[u8] {
+fn text_in(sector: &Sector) -> &[u8]
+    ensures { λ r. ⌜ now r ≡ text-of (now (sector .entry)) ⌝ }
+{
     for (i, b) in sector.iter().enumerate() {
         if *b == 0 {
             return &sector[0..i];
@@ -50,11 +57,12 @@ pub impl fmt::Display for Seen as SeenDisplay {
     }
 }
 
-// A sector that begins with the text, as much of it as there is room for, and zeros after.
-pub fn sector_of(text: &str) -> Sector {
+// The text as a sector, as much of it as there is room for, and zeros after it.
+pub fn sector_of(text: &str) -> Sector
+    ensures { λ r. ⌜ r ≡ padded (now (text .entry)) ⌝ }
+{
     let mut sector = BLANK;
-    for (to, from) in sector.iter_mut().zip(text.bytes()) {
-        *to = from;
-    }
+    let room = text.len().min(64);
+    sector[0..room].copy_from_slice(&text.as_bytes()[0..room]);
     sector
 }

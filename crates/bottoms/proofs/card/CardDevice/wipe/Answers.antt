@@ -1,30 +1,24 @@
 -- Zeros go to all places of the block.
-use mathlib.Core.Path.{_≡_, ap}
 use native.Mathlib.Omega.{arith}
-use lib.ListN.{length}
 use Rattle.std.proofs.shelf.Results.{err-from-errBy}
 use Rattle.device.specs.Operations.{wipe}
-use Rattle.bottoms.specs.Images.{blocks-in}
-use Rattle.bottoms.proofs.Calls.{past-call, within-call, below, wiped-is}
+use Rattle.bottoms.proofs.Calls.{past-call, within-call, wiped-is}
 use Rattle.bottoms.proofs.Changes.{wipe-runs}
 use Rattle.bottoms.proofs.card.CardDevice.wipe.Needs as need
 
 pub returns-in-Break-i : need.returns-in-Break-i
 returns-in-Break-i g c =
-    let F = g .P·Placement .format in
-    let m = c .args .self .now .bytes .now in
     let n = c .args .n in
+    let run = wipe-runs (g .P·Placement .format) (g .P·Placement·met .lawful) (c .args .self .now .bytes .now) n in
+    let w = past-call (g .P·Placement .format) _ n (c .in-Break-i .ensures tt .0) (wipe n) _ run in
     let p = err-from-errBy (c .from-residual .result) (c .from-residual .ensures .1) in
-    let w = past-call F m n (wipe n) _ (wipe-runs F (g .P·Placement·met .lawful) m n) (omega (arith, ap (blocks-in (length m)) (c .places-places .ensures .count), c .in-Break-i .ensures tt .0)) in
     rw (p .1, p .2, c .in-Break-i .ensures tt .1) (record { answer = w .0; effect = w .1; image = w .2 })
 
 pub returns : need.returns
 returns g c =
-    let F = g .P·Placement .format in
-    let m = c .args .self .now .bytes .now in
     let n = c .args .n in
-    let few = c .places-places .ensures .count in
     let at = c .in-Continue-i .ensures tt in
-    let e = wiped-is F m n _ _ _ few at _ _ (c .erase .last .places) (omega arith) (c .erase .ensures) (omega arith) in
-    let w = within-call F m n (wipe n) _ (wipe-runs F (g .P·Placement·met .lawful) m n) _ e (below F m n _ _ _ few at) in
+    let run = wipe-runs (g .P·Placement .format) (g .P·Placement·met .lawful) (c .args .self .now .bytes .now) n in
+    let e = wiped-is (g .P·Placement .format) _ n _ _ at _ _ (c .erase .last .places) (omega arith) (c .erase .ensures) (omega arith) in
+    let w = within-call (g .P·Placement .format) _ n _ _ at (wipe n) _ _ run e in
     record { answer = w .0; effect = w .1; image = w .2 }
