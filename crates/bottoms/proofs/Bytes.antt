@@ -4,7 +4,7 @@ use mathlib.Core.List.{List, _++_}
 use Prim.Native.Nat.{ℕ, _<_, _+_, _-_, _≤_}
 use native.Mathlib.Omega.{arith}
 use lib.ListN.{length, getD, set, take, drop, replicate}
-use borrow.Rule.Slice.PartMut.{putMid, postOf}
+use borrow.Rule.Slice.PartMut.{putMid}
 use borrow.Author.Needs.{needs}
 use Rattle.std.proofs.shelf.Lists.{length-drop, length-replicate, take-take, drop-drop, drop-at, length-take-le, drop-append-le, take-append-le, drop-set-lt, drop-take, getD-take}
 use Rattle.std.proofs.shelf.Parts.{overwrites, drop-putMid, take-putMid-below}

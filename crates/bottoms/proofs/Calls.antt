@@ -2,7 +2,7 @@
 use mathlib.Core.Path.{_≡_, refl, sym, ap, subst, _∙_}
 use mathlib.Core.List.{List, [], _∷_, map}
 use mathlib.Core.Logic.{⊎-elim}
-use mathlib.Core.Bool.{true, false, cond}
+use mathlib.Core.Bool.{true, false}
 use Prim.Native.Nat.{ℕ, _<_, _+_, _*_, _/_, _≤_}
 use native.Mathlib.Omega.{arith}
 use lib.ListN.{length, take, drop, set, replicate}
@@ -18,7 +18,7 @@ use Rattle.std.proofs.shelf.Lists.{length-map, length-take-le, length-drop, len
 use Rattle.std.proofs.shelf.Tests.{cases-bool, cond-true, cond-false, lt-ltb, le-ltb}
 use Rattle.device.specs.Answers.{Answer, accepted, refused, of-block, change-answer, read-block, read-answer, filled, read-buffer}
 use Rattle.device.specs.Blocks.{Shown, shown-at}
-use Rattle.device.specs.Operations.{Op, write, wipe, lose}
+use Rattle.device.specs.Operations.{Op}
 use Rattle.device.proofs.Answers.{answer-within, answer-past, read-within, buffer-within, buffer-past}
 use Rattle.bottoms.specs.Formats.{Format, Lawful}
 use Rattle.bottoms.specs.Images.{Located, count, state, place-at, place, place-in, showing, block, image-shown, counts, image-held, if-block, overwritten, Runs}

@@ -1,8 +1,8 @@
 -- What write, wipe and mark make of an image: one block changes, and what is held for it is what the operation lets it hold.
 use mathlib.Core.Path.{_≡_, refl, sym, ap, subst, _∙_}
-use mathlib.Core.List.{List, [], _∷_, map, List·Memᴰ·not-nil}
+use mathlib.Core.List.{List, [], _∷_, map}
 use mathlib.Core.Logic.{_⊎_, inl, inr, ⊎-elim}
-use mathlib.Core.Bool.{Bool, true, false, cond, not}
+use mathlib.Core.Bool.{true}
 use Prim.Native.Nat.{ℕ, _<_, _+_, _*_, _-_, _≤_}
 use native.Mathlib.Omega.{arith}
 use lib.ListN.{length, getD, set, take, replicate}
@@ -11,11 +11,11 @@ use Rattle.std.specs.Iters.{counting}
 use Rattle.std.specs.shelf.Lists.{kept-by}
 use Rattle.std.proofs.shelf.Counted.{length-map-counting, getD-map-counting}
 use Rattle.std.proofs.shelf.Lists.{same-lists, length-set, getD-set-same, getD-set-other, length-replicate, drop-replicate, take-replicate, take-all}
-use Rattle.std.proofs.shelf.Tests.{cases-eq, cases-lt, cond-true, cond-false, cond-both, both-ways, eq-eqb, ne-eqb, ltb-true, ltb-false, not-true, not-from-true}
+use Rattle.std.proofs.shelf.Tests.{cases-eq, cases-lt, cond-true, cond-false, cond-both, both-ways, eq-eqb, ne-eqb, ltb-true, ltb-false, not-true}
 use Rattle.std.specs.declared.option.Option.{Option}
 use Rattle.std.specs.declared.option.Option.the-variants.{Some, None}
-use Rattle.device.specs.Blocks.{Shown, lost, sector, shown-at, _∈_, blank, is-blank}
-use Rattle.device.specs.Operations.{Op, write, wipe, lose, target, result, left-by, may-hold, Ran}
+use Rattle.device.specs.Blocks.{Shown, sector, shown-at, _∈_, blank, is-blank}
+use Rattle.device.specs.Operations.{Op, write, wipe, lose, target, result, left-by, may-hold}
 use Rattle.device.proofs.Operations.{ran-past}
 use Rattle.bottoms.specs.Formats.{Format, Lawful}
 use Rattle.bottoms.specs.Images.{count, state, part, place-at, place, showing, block, image-shown, hidden, counts, image-held, overwritten, if-block, write-image, wipe-image, mark-image, Runs}

@@ -149,5 +149,5 @@ image-named F m =
     record {
       every = λ n j h low b. ⊎-elim (λ q. inl (shown-block F m n h ∙ q)) inr (place-named F m n j low b);
       only = λ n s i. let r = in-held (F .places) (place F m n) (F .shows (state m n)) s i in (r .0, r .1, r .3, r .4);
-      all = byte-placed F (count F m);
+      covers = byte-placed F (count F m);
     }

@@ -1,9 +1,9 @@
 -- Where the places of a block lie: inside the image, after the states, and apart from those of other blocks.
-use mathlib.Core.Path.{_≡_, refl, sym, ap, _∙_}
+use mathlib.Core.Path.{_≡_, ap}
 use mathlib.Core.List.{List}
 use mathlib.Core.Bool.{true, _&&_}
-use Prim.Native.Nat.{ℕ, zero, suc, _<_, _+_, _-_, _*_, _/_, _%_, _≤_, min}
-use native.Mathlib.Nat.{zero-mul, one-mul, mul-add, add-mul, mul-comm, mul-assoc, mul-one, mul-le-mul-left, mul-le-mul-right, div-mul-le-self, min-le-left, min-le-right}
+use Prim.Native.Nat.{ℕ, zero, suc, _<_, _+_, _-_, _*_, _/_, _%_, _≤_}
+use native.Mathlib.Nat.{zero-mul, one-mul, mul-add, add-mul, mul-comm, mul-assoc, mul-one, mul-le-mul-left, mul-le-mul-right, div-mul-le-self, min-le-left}
 use native.Mathlib.Omega.{arith}
 use lib.ListN.{length}
 use lib.Dec.{eqb, leb}
@@ -45,14 +45,6 @@ places-inside len p n h =
     let d : c * (64 * p) ≡ 64 * p * c = mul-comm c (64 * p) in
     let e : 64 * p * c ≡ 64 * (p * c) = mul-assoc 64 p c in
     omega (arith, div-mul-le-self len (span p), places-before p n c h, mul-one c)
-
--- the same for one place
-module _ (F : Format) (m : List ℕ) (n j : ℕ) (lt : n < count F m) (low : j < F .places) where
-  pub place-inside : place-at F (count F m) n j + 64 ≤ length m
-  place-inside = omega (arith, places-inside (length m) (F .places) n lt)
-
-  pub state-before : n < place-at F (count F m) n j
-  state-before = omega arith
 
 -- every byte after the states is one of a place
 pub byte-placed : (F : Format) (c i : ℕ) → c ≤ i → i < span (F .places) * c

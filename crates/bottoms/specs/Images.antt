@@ -1,6 +1,6 @@
 -- The image of a card: N state bytes, then for each block its places. What it shows and holds, and what each call makes of it.
 use mathlib.Core.Path.{_≡_}
-use mathlib.Core.List.{List, [], _∷_, _++_, map}
+use mathlib.Core.List.{List, _++_, map}
 use mathlib.Core.Bool.{Bool, true, cond, not, _&&_}
 use Prim.Native.Nat.{ℕ, _+_, _*_, _/_, _<_, _≤_, min}
 use lib.ListN.{length, getD, set, take, drop, replicate}

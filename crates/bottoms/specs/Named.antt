@@ -15,5 +15,5 @@ pub record Named (F : Format) (m : List ℕ) : Type 0 where
   -- every sector held for a block is a place of the block that isn't blank
   pub only : (n : ℕ) (s : List ℕ) → s ∈ image-held F m n → (j : ℕ) × (j < F .places) × (s ≡ place F m n j) × (is-blank s ≡ false)
   -- every byte after the states is one of a place
-  pub all : (i : ℕ) → count F m ≤ i → i < span (F .places) * count F m
+  pub covers : (i : ℕ) → count F m ≤ i → i < span (F .places) * count F m
       → (n : ℕ) × (j : ℕ) × (k : ℕ) × (n < count F m) × (j < F .places) × (k < 64) × (i ≡ place-at F (count F m) n j + k)

@@ -1,14 +1,14 @@
 -- Answers of calls that name a block: accepted below the count, refused past it.
-use mathlib.Core.Path.{_≡_, sym, _∙_, ap}
+use mathlib.Core.Path.{_≡_, _∙_, ap}
 use mathlib.Core.List.{List}
-use mathlib.Core.Logic.{_⊎_, inl, inr, ⊎-elim}
+use mathlib.Core.Logic.{_⊎_, ⊎-elim}
 use Prim.Native.Nat.{ℕ, _<_, _≤_}
 use native.Mathlib.Omega.{arith}
-use lib.ListN.{length, getD}
+use lib.ListN.{length}
 use lib.Dec.{ltb}
 use Rattle.std.proofs.shelf.Lists.{getD-past}
 use Rattle.std.proofs.shelf.Tests.{cases-lt, cond-true, cond-false, lt-ltb, le-ltb}
-use Rattle.device.specs.Blocks.{Shown, lost, sector, shown-at}
+use Rattle.device.specs.Blocks.{Shown, lost, shown-at}
 use Rattle.device.specs.Answers.{Answer, accepted, refused, of-block, change-answer, read-block, read-answer, filled, read-buffer}
 
 pub answer-within : {A : Type 0} (d : List Shown) (n : ℕ) (a : Answer A) → n < length d → of-block d n a ≡ a

@@ -1,13 +1,13 @@
 -- Both operations run, or the block number is past the count and neither does anything.
-use mathlib.Core.Path.{_≡_, refl, sym, ap, subst, _∙_}
+use mathlib.Core.Path.{sym, ap, subst, _∙_}
 use mathlib.Core.List.{List, [], _∷_, List·Memᴰ·not-nil}
 use Prim.Native.Nat.{ℕ, _<_, _≤_}
 use native.Mathlib.Omega.{arith}
 use lib.ListN.{length}
 use Rattle.std.proofs.shelf.Results.{err-from-errBy}
 use Rattle.device.specs.Blocks.{_∈_, shown-at}
-use Rattle.device.specs.Answers.{accepted, change-answer}
-use Rattle.device.specs.Operations.{wipe, write, Ran, after}
+use Rattle.device.specs.Answers.{accepted}
+use Rattle.device.specs.Operations.{wipe, write, Ran}
 use Rattle.device.proofs.Answers.{past-count, within-count, answer-within}
 use Rattle.device.proofs.Operations.{ran-++, ran-past, count-after, replaced-holds}
 use Rattle.device.proofs.replacing.replace.Needs as need

@@ -1,7 +1,5 @@
 -- As many blocks are shown as the length has room for, at most 1,024.
-use mathlib.Core.Path.{_≡_, sym, ap, _∙_}
-use Prim.Native.Nat.{ℕ}
-use native.Mathlib.Nat.{min-le-right}
+use mathlib.Core.Path.{sym, ap, _∙_}
 use native.Mathlib.Omega.{arith}
 use lib.ListN.{length}
 use Rattle.bottoms.specs.Images.{blocks-in}
