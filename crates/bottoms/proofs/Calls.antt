@@ -9,10 +9,14 @@ use lib.ListN.{length, take, drop, set, replicate}
 use lib.Dec.{ltb}
 use borrow.Rule.Slice.PartMut.{putMid}
 use Rattle.std.specs.Iters.{counting}
-use Rattle.std.specs.Options.{Cases}
+use Rattle.std.specs.Options.{Cases as BySome}
+use Rattle.std.specs.Results.{Cases}
 use Rattle.std.specs.declared.option.Option.{Option}
 use Rattle.std.specs.declared.option.Option.the-variants.{Some, None}
+use Rattle.std.specs.declared.result.Result.{Result}
 use Rattle.std.specs.declared.result.Result.the-variants.{Ok, Err}
+use Rattle.device.specs.declared.fault.DeviceFault.{DeviceFault}
+use Rattle.device.specs.declared.fault.DeviceFault.the-variants.{NoBlock}
 use Rattle.std.specs.shelf.Lists.{kept-by}
 use Rattle.std.proofs.shelf.Lists.{length-map, length-take-le, length-drop, length-replicate}
 use Rattle.std.proofs.shelf.Tests.{cases-bool, cond-true, cond-false, lt-ltb, le-ltb}
@@ -21,7 +25,7 @@ use Rattle.device.specs.Blocks.{Shown, shown-at}
 use Rattle.device.specs.Operations.{Op}
 use Rattle.device.proofs.Answers.{answer-within, answer-past, read-within, buffer-within, buffer-past}
 use Rattle.bottoms.specs.Formats.{Format, Lawful}
-use Rattle.bottoms.specs.Images.{Located, count, state, place-at, place, place-in, showing, block, image-shown, counts, image-held, if-block, overwritten, Runs}
+use Rattle.bottoms.specs.Images.{blocks-in, Located, count, state, place-at, place, place-in, showing, block, image-shown, counts, image-held, if-block, overwritten, Runs}
 use Rattle.bottoms.specs.Opening.{opened, rejected, fits, size-answer, opening}
 use Rattle.bottoms.specs.declared.fault.OpenFault.the-variants.{WrongMemory}
 use Rattle.bottoms.proofs.Bytes.{part-lent, put-is, zeros-are}
@@ -48,7 +52,7 @@ module _ (F : Format) (m : List ℕ) (n i a : ℕ) (found : Located (length m) (
   below : n < length (image-shown F m)
   below = omega (arith, found .below, count-shown F m)
 
-  pub within-answer : {A : Type 0} (a : Answer A) → a ≡ of-block (image-shown F m) n a
+  within-answer : {A : Type 0} (a : Answer A) → a ≡ of-block (image-shown F m) n a
   within-answer a = sym (answer-within (image-shown F m) n a below)
 
   -- a change that makes m₁ of the image, which the code has as m′
@@ -91,26 +95,33 @@ module _ (F : Format) (m : List ℕ) (n i a : ℕ) (found : Located (length m) (
     long : length lent ≡ k
     long = let room : k ≤ length (drop a m) = simp length-drop (omega (arith, found .inside)) in length-take-le k (drop a m) room
 
-    pub shown-inside : Cases o (Unit {0}) (λ j. 64 * j + 64 ≤ length lent)
+    pub shown-inside : BySome o (Unit {0}) (λ j. 64 * j + 64 ≤ length lent)
     shown-inside = inside o says where
-      inside : (x : Option ℕ) → x ≡ F .shows (state m i) → Cases x (Unit {0}) (λ j. 64 * j + 64 ≤ length lent)
+      inside : (x : Option ℕ) → x ≡ F .shows (state m i) → BySome x (Unit {0}) (λ j. 64 * j + 64 ≤ length lent)
       inside None e = tt
       inside (Some j) e = omega (arith, laws .shows-below (state m i) j (sym e), long)
 
-    pub read-call : (buffer : List ℕ) → (read-block n (showing (place-in lent) o) ≡ read-answer (image-shown F m) n) × (filled (showing (place-in lent) o) buffer ≡ read-buffer (image-shown F m) n buffer)
-    read-call buffer =
+    -- what the code read from the lent places, and what it left in the buffer
+    pub read-call : (r : Answer Unit) (buffer buffer′ : List ℕ) → r ≡ read-block n (showing (place-in lent) o) → buffer′ ≡ filled (showing (place-in lent) o) buffer
+        → (r ≡ read-answer (image-shown F m) n) × (buffer′ ≡ read-buffer (image-shown F m) n buffer)
+    read-call r buffer buffer′ a b =
         let e = shown-block F m n (found .below) in (
-          ap (read-block n) same-block ∙ sym (read-within (image-shown F m) n (block F m n) below e),
-          ap (λ (b : Shown). filled b buffer) same-block ∙ sym (buffer-within (image-shown F m) n (block F m n) buffer e),
+          a ∙ ap (read-block n) same-block ∙ sym (read-within (image-shown F m) n (block F m n) below e),
+          b ∙ ap (λ (x : Shown). filled x buffer) same-block ∙ sym (buffer-within (image-shown F m) n (block F m n) buffer e),
         )
 
-    pub held-call : length (kept-by (counts (place-in lent) o) (counting 0 (length lent / 64))) ≡ length (image-held F m n)
-    held-call =
+    held-here : length (kept-by (counts (place-in lent) o) (counting 0 (length lent / 64))) ≡ length (image-held F m n)
+    held-here =
         let e : length lent / 64 ≡ F .places = omega (arith, long) in
         ap (λ (q : ℕ). length (kept-by (counts (place-in lent) o) (counting 0 q))) e
         ∙ sym (length-map (kept-by (counts (place-in lent) o) (counting 0 (F .places))) (place-in lent))
         ∙ ap length (held-same (F .places) (place-in lent) (place F m n) o same-place)
         ∙ ap (λ (x : Option ℕ). length (map (place F m n) (kept-by (counts (place F m n) x) (counting 0 (F .places))))) says-here
+
+    -- what the code counted in the lent places
+    pub held-call : (r : ℕ) → r ≡ length (kept-by (counts (place-in lent) o) (counting 0 (length lent / 64)))
+        → accepted r ≡ of-block (image-shown F m) n (accepted (length (image-held F m n)))
+    held-call r e = ap accepted (e ∙ held-here) ∙ within-answer (accepted (length (image-held F m n)))
 
 -- memory that the code accepted, with p places for a block
 pub opened-call : (F : Format) (m : List ℕ) (n p : ℕ) → p ≡ F .places → Ok tt ≡ size-answer p (length m) n
@@ -124,3 +135,14 @@ opened-call F m n p few e =
     let k : size-answer p (length m) n ≡ Err WrongMemory = cond-false (fits p (length m) n) (Ok tt) (Err WrongMemory) t in
     let z : _≡_ {A = ℕ} 0 1 = cc in absurd (omega arith))
     (cases-bool (fits p (length m) n))
+
+-- the code's count, with p places for a block
+pub count-call : (F : Format) (m : List ℕ) (p r : ℕ) → p ≡ F .places → r ≡ blocks-in (length m) p → (r ≡ length (image-shown F m)) × (r ≤ 1024)
+count-call F m p r few e = (e ∙ ap (blocks-in (length m)) few ∙ sym (count-shown F m), omega arith)
+
+-- the code's look for block n, with p places for a block
+pub find-call : (F : Format) (m : List ℕ) (n p : ℕ) (r : Result (ℕ × ℕ) DeviceFault) → p ≡ F .places
+    → Cases r (λ x. Located (length m) p n (x .0) (x .1)) (λ f. (blocks-in (length m) p ≤ n) × (f ≡ NoBlock n))
+    → Cases r (λ x. Located (length m) (F .places) n (x .0) (x .1)) (λ f. (length (image-shown F m) ≤ n) × (f ≡ NoBlock n))
+find-call F m n p (Ok x) few h = subst (λ (q : ℕ). Located (length m) q n (x .0) (x .1)) few h
+find-call F m n p (Err f) few h = (omega (arith, h .0, ap (blocks-in (length m)) few, count-shown F m), h .1)

@@ -73,7 +73,7 @@ fn refused_blocks() -> Result<(), Fail> {
 // Three writes, a mark and a fourth write to the first of two blocks.
 fn turns<P: Placement>(memory: &mut [u8]) -> Result<(), DeviceFault> {
     match Card::<P>::open(memory, 2) {
-        Err(_) => Ok(()),
+        Err(_) => Err(DeviceFault::NoBlock(0)),
         Ok(mut card) => {
             card.write(0, &[1; 64])?;
             card.write(0, &[2; 64])?;
@@ -84,7 +84,16 @@ fn turns<P: Placement>(memory: &mut [u8]) -> Result<(), DeviceFault> {
     }
 }
 
-// State bytes first, then the places: the last byte of each is looked at.
+// The state bytes, and the last byte of each block's sector.
+#[test]
+fn bytes_of_the_plain_card() -> Result<(), Fail> {
+    let mut memory = [0; 130];
+    check(turns::<InPlace>(&mut memory) == Ok(()))?;
+    check(memory[0] == 0 && memory[1] == 0)?;
+    check(memory[65] == 4 && memory[129] == 0)
+}
+
+// The state bytes, the last byte of each place of the first block, and that of the second block's first place.
 #[test]
 fn bytes_of_the_rotating_card() -> Result<(), Fail> {
     let mut memory = [0; 514];

@@ -1,4 +1,4 @@
-// Shows what a card still holds: a name is written to a block, "erased" with zeros, wiped, replaced and lost.
+// Shows what a card still holds: a name is written to a block, then "erased" with zeros, lost, wiped or replaced.
 mod seen;
 mod trouble;
 
@@ -27,6 +27,8 @@ const BLOCKS: u32 = 4;
 // the block that the name goes to
 const BLOCK: u32 = 2;
 
+const NAME: &str = "Margarete Onda";
+
 // Prints what reading the block shows, and how many sectors the card holds for it beside that.
 fn report<P: Placement>(rt: &LibcRuntime, step: &str, card: &mut Card<P>) -> Result<(), Trouble> {
     let seen = Seen::read(card, BLOCK).to_string(rt.alloc())?;
@@ -35,9 +37,9 @@ fn report<P: Placement>(rt: &LibcRuntime, step: &str, card: &mut Card<P>) -> Res
     Ok(())
 }
 
-// The name is written, then zeros are written over it, then the block is wiped.
+// Zeros are written over the name, then the block is wiped.
 fn zeros<P: Placement>(rt: &LibcRuntime, card: &mut Card<P>) -> Result<(), Trouble> {
-    card.write(BLOCK, &sector_of("Margarete Onda"))?;
+    card.write(BLOCK, &sector_of(NAME))?;
     report(rt, "the name is written", card)?;
     card.write(BLOCK, &BLANK)?;
     report(rt, "zeros are written over it", card)?;
@@ -45,33 +47,36 @@ fn zeros<P: Placement>(rt: &LibcRuntime, card: &mut Card<P>) -> Result<(), Troub
     report(rt, "the block is wiped", card)
 }
 
-// The name is written, then the block is replaced: wiped before the new name is written.
-fn replaced<P: Placement>(rt: &LibcRuntime, card: &mut Card<P>) -> Result<(), Trouble> {
-    card.write(BLOCK, &sector_of("Margarete Onda"))?;
-    report(rt, "the name is written", card)?;
-    replace(card, BLOCK, &sector_of("Tomas Ibarra"))?;
-    report(rt, "another replaces it", card)
-}
-
-// The block is marked lost, then wiped.
+// The block with the name is marked lost, then wiped.
 fn lost<P: Placement>(rt: &LibcRuntime, card: &mut Card<P>) -> Result<(), Trouble> {
+    card.write(BLOCK, &sector_of(NAME))?;
+    report(rt, "the name is written", card)?;
     card.mark(BLOCK)?;
     report(rt, "the block is marked lost", card)?;
     card.wipe(BLOCK)?;
     report(rt, "the block is wiped", card)
 }
 
+// The name is replaced: the block is wiped before another is written.
+fn replaced<P: Placement>(rt: &LibcRuntime, card: &mut Card<P>) -> Result<(), Trouble> {
+    card.write(BLOCK, &sector_of(NAME))?;
+    report(rt, "the name is written", card)?;
+    replace(card, BLOCK, &sector_of("Tomas Ibarra"))?;
+    report(rt, "another replaces it", card)
+}
+
+// All three on a card of these bytes.
 fn story<P: Placement>(rt: &LibcRuntime, bytes: &mut [u8]) -> Result<(), Trouble> {
     let mut card = Card::<P>::open(bytes, BLOCKS)?;
     zeros(rt, &mut card)?;
-    replaced(rt, &mut card)?;
-    lost(rt, &mut card)
+    lost(rt, &mut card)?;
+    replaced(rt, &mut card)
 }
 
 fn run(rt: &LibcRuntime) -> Result<(), Trouble> {
     println!(
         rt,
-        "A name is written to block {BLOCK} of a card and erased in several ways."
+        "A name is written to block {BLOCK} of a card and erased."
     )?;
     println!(
         rt,
@@ -87,7 +92,7 @@ fn run(rt: &LibcRuntime) -> Result<(), Trouble> {
     story::<Rotation>(rt, &mut rotating)?;
     println!(
         rt,
-        "Zeros take the name out of sight; only a wipe takes it off every card."
+        "Zeros take the name out of sight. Only a wipe takes it off the card."
     )?;
     Ok(())
 }

@@ -17,7 +17,7 @@ pub enum Seen {
 
 impl Seen {
     // What block n shows. The device is as it was.
-    pub fn read<D: Device>(device: &mut D, n: u32) -> Seen
+    pub(crate) fn read<D: Device>(device: &mut D, n: u32) -> Seen
         ensures value { λ r. ⌜ r ≡ seen-at (shown (now (device .entry))) n ⌝ }
         ensures effect { λ _. ⌜ Ran [] (shown (now (device .entry))) (held (now (device .entry))) (shown (now (device .exit))) (held (now (device .exit))) ⌝ }
     {
@@ -58,7 +58,7 @@ pub impl fmt::Display for Seen as SeenDisplay {
 }
 
 // The text as a sector, as much of it as there is room for, and zeros after it.
-pub fn sector_of(text: &str) -> Sector
+pub(crate) fn sector_of(text: &str) -> Sector
     ensures { λ r. ⌜ r ≡ padded (now (text .entry)) ⌝ }
 {
     let mut sector = BLANK;

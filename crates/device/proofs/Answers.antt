@@ -1,7 +1,8 @@
 -- Answers of calls that name a block: accepted below the count, refused past it.
 use mathlib.Core.Path.{_≡_, _∙_, ap}
 use mathlib.Core.List.{List}
-use mathlib.Core.Logic.{_⊎_, ⊎-elim}
+use mathlib.Core.Logic.{⊎-elim}
+use mathlib.Core.Bool.{cond}
 use Prim.Native.Nat.{ℕ, _<_, _≤_}
 use native.Mathlib.Omega.{arith}
 use lib.ListN.{length}
@@ -17,19 +18,16 @@ answer-within d n a h = cond-true (ltb n (length d)) a (refused 1 n) (lt-ltb n (
 pub answer-past : {A : Type 0} (d : List Shown) (n : ℕ) (a : Answer A) → length d ≤ n → of-block d n a ≡ refused 1 n
 answer-past d n a h = cond-false (ltb n (length d)) a (refused 1 n) (le-ltb n (length d) h)
 
--- what is known of the block number once write, wipe or mark has answered
+-- devices of one count give write, wipe and mark one answer
+pub same-count : (d d′ : List Shown) (n : ℕ) (a : Answer Unit) → length d′ ≡ length d → a ≡ change-answer d′ n → a ≡ change-answer d n
+same-count d d′ n a len e = e ∙ ap (λ (k : ℕ). cond (ltb n k) (accepted tt) (refused 1 n)) len
+
+-- a refused write, wipe or mark named a block past the count
 pub past-count : (d : List Shown) (n ground block : ℕ) → refused ground block ≡ change-answer d n → length d ≤ n
 past-count d n ground block e =
     ⊎-elim
     (λ (h : n < length d). let k : change-answer d n ≡ accepted tt = answer-within d n (accepted tt) h in let z : _≡_ {A = ℕ} 0 1 = cc in absurd (omega arith))
     (λ (h : length d ≤ n). h)
-    (cases-lt n (length d))
-
-pub within-count : (d : List Shown) (n : ℕ) → accepted tt ≡ change-answer d n → n < length d
-within-count d n e =
-    ⊎-elim
-    (λ (h : n < length d). h)
-    (λ (h : length d ≤ n). let k : change-answer d n ≡ refused 1 n = answer-past d n (accepted tt) h in let z : _≡_ {A = ℕ} 0 1 = cc in absurd (omega arith))
     (cases-lt n (length d))
 
 -- a read of a block that shows b

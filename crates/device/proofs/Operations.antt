@@ -1,6 +1,6 @@
 -- Operations one after the other: lists of them joined, and one block seen alone.
 use mathlib.Core.Path.{_≡_, refl, sym, ap, subst, _∙_}
-use mathlib.Core.List.{List, [], _∷_, _++_, List·Memᴰ·head, List·Memᴰ·tail, List·Memᴰ·cases-cons}
+use mathlib.Core.List.{List, [], _∷_, _++_, List·Memᴰ·head, List·Memᴰ·tail, List·Memᴰ·cases-cons, List·Memᴰ·not-nil}
 use mathlib.Core.Logic.{_⊎_, ⊎-elim}
 use mathlib.Core.Bool.{true, false, cond}
 use Prim.Native.Nat.{ℕ, _<_, _≤_}
@@ -91,5 +91,7 @@ ran-past o d h past =
     }
 
 -- a block that is wiped and then written holds nothing
-pub replaced-holds : (n : ℕ) (c : Shown) (x : List ℕ) (kept : List (List ℕ)) → may-hold-all (wipe n ∷ write n x ∷ []) n c kept ≡ []
-replaced-holds n c x kept = simp (eq-eqb n n refl)
+pub replaced-holds : (n : ℕ) (x : List ℕ) (d d′ : List Shown) (h h′ : Held) → Ran (wipe n ∷ write n x ∷ []) d h d′ h′ → n < length d → (s : List ℕ) → s ∈ h′ n → ⊥
+replaced-holds n x d d′ h h′ run l s m = List·Memᴰ·not-nil (subst (λ (z : List (List ℕ)). s ∈ z) none (run .holds n l s m)) where
+  none : may-hold-all (wipe n ∷ write n x ∷ []) n (shown-at d n) (h n) ≡ []
+  none = simp (eq-eqb n n refl)

@@ -1,14 +1,13 @@
 -- Both operations run, or the block number is past the count and neither does anything.
-use mathlib.Core.Path.{sym, ap, subst, _∙_}
-use mathlib.Core.List.{List, [], _∷_, List·Memᴰ·not-nil}
-use Prim.Native.Nat.{ℕ, _<_, _≤_}
+use mathlib.Core.Path.{_≡_, ap}
+use mathlib.Core.List.{[], _∷_}
+use Prim.Native.Nat.{_≤_}
 use native.Mathlib.Omega.{arith}
 use lib.ListN.{length}
 use Rattle.std.proofs.shelf.Results.{err-from-errBy}
-use Rattle.device.specs.Blocks.{_∈_, shown-at}
-use Rattle.device.specs.Answers.{accepted}
+use Rattle.device.specs.Answers.{answer-of}
 use Rattle.device.specs.Operations.{wipe, write, Ran}
-use Rattle.device.proofs.Answers.{past-count, within-count, answer-within}
+use Rattle.device.proofs.Answers.{past-count, same-count}
 use Rattle.device.proofs.Operations.{ran-++, ran-past, count-after, replaced-holds}
 use Rattle.device.proofs.replacing.replace.Needs as need
 
@@ -39,11 +38,6 @@ returns g c =
     let h′ = g .D·Device .held (c .wipe .last .self) in
     let d″ = g .D·Device .shown (c .write .last .self) in
     let h″ = g .D·Device .held (c .write .last .self) in
-    let within : n < length d = within-count d n (c .in-Continue-wipe .ensures tt .answer) in
-    let len : n < length d′ = omega (arith, ap length (c .wipe .ensures .effect .shows), count-after (wipe n) d) in
+    let len : length d′ ≡ length d = omega (arith, ap length (c .wipe .ensures .effect .shows), count-after (wipe n) d) in
     let run : Ran (wipe n ∷ write n x ∷ []) d h d″ h″ = ran-++ (wipe n ∷ []) (write n x ∷ []) d d′ d″ h h′ h″ (c .wipe .ensures .effect) (c .write .ensures .effect) in
-    record {
-      answer = c .write .ensures .answer ∙ answer-within d′ n (accepted tt) len ∙ sym (answer-within d n (accepted tt) within);
-      effect = run;
-      nothing = λ l s m. List·Memᴰ·not-nil (subst (λ (z : List (List ℕ)). s ∈ z) (replaced-holds n (shown-at d n) x (h n)) (run .holds n l s m));
-    }
+    record { answer = same-count d d′ n (answer-of (c .write .result)) len (c .write .ensures .answer); effect = run; nothing = replaced-holds n x d d″ h h″ run }

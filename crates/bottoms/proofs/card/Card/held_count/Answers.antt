@@ -1,11 +1,10 @@
 -- The places of the block are counted.
-use mathlib.Core.Path.{ap, _∙_}
 use native.Mathlib.Omega.{arith}
 use lib.ListN.{length}
 use Rattle.std.proofs.shelf.Results.{err-from-errBy}
 use Rattle.device.specs.Answers.{accepted}
 use Rattle.bottoms.specs.Images.{image-held}
-use Rattle.bottoms.proofs.Calls.{past-answer, within-answer, held-call}
+use Rattle.bottoms.proofs.Calls.{past-answer, held-call}
 use Rattle.bottoms.proofs.Named.{image-named}
 use Rattle.bottoms.proofs.card.Card.held_count.Needs as need
 
@@ -22,7 +21,7 @@ pub returns : need.returns
 returns g c =
     let F = g .P·Placement .format in
     let m = c .args .self .now .bytes .now in
-    let n = c .args .n in
-    let at = c .in-Continue-i .ensures tt in
-    let e = held-call F m n _ _ at (g .P·Placement·met .lawful) _ (c .shown .result) (omega arith) (c .shown .ensures) in
-    record { answer = ap accepted (c .count-held .ensures ∙ e) ∙ within-answer F m n _ _ at (accepted (length (image-held F m n))); named = image-named F m }
+    record {
+      answer = held-call F m (c .args .n) _ _ (c .in-Continue-i .ensures tt) (g .P·Placement·met .lawful) _ (c .shown .result) (omega arith) (c .shown .ensures) (c .count-held .result) (c .count-held .ensures);
+      named = image-named F m;
+    }

@@ -1,7 +1,7 @@
 -- The shown place is read from the places of the block.
-use mathlib.Core.Path.{_∙_}
 use native.Mathlib.Omega.{arith}
 use Rattle.std.proofs.shelf.Results.{err-from-errBy}
+use Rattle.device.specs.Answers.{answer-of}
 use Rattle.bottoms.proofs.Calls.{past-read, shown-inside, read-call}
 use Rattle.bottoms.proofs.card.Card.look.Needs as need
 
@@ -18,6 +18,6 @@ read-shown-requires g c κs =
 
 pub returns : need.returns
 returns g c =
-    let w = read-call (g .P·Placement .format) (c .args .self .now .bytes .now) (c .args .n) _ _ (c .in-Continue-i .ensures tt)
-    (g .P·Placement·met .lawful) _ (c .shown .result) (omega arith) (c .shown .ensures) (c .args .buf .now) in
-    record { answer = c .read-shown .ensures .answer ∙ w .0; buffer = c .read-shown .ensures .buffer ∙ w .1 }
+    let w = read-call (g .P·Placement .format) (c .args .self .now .bytes .now) (c .args .n) _ _ (c .in-Continue-i .ensures tt) (g .P·Placement·met .lawful) _ (c .shown .result) (omega arith) (c .shown .ensures)
+    (answer-of (c .read-shown .result)) (c .args .buf .now) (c .read-shown .last .buf) (c .read-shown .ensures .answer) (c .read-shown .ensures .buffer) in
+    record { answer = w .0; buffer = w .1 }
