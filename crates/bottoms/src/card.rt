@@ -27,6 +27,7 @@ use device::Device;
 use device::DeviceFault;
 use device::Sector;
 
+// The bytes that the caller lent, and how a block uses its places.
 #[derive(Drop)]
 pub struct Card<'a, P> {
     bytes: &'a mut [u8],

@@ -2,6 +2,7 @@
 ghost use mathlib.Core.Path.{_≡_};
 ghost use Rattle.bottoms.specs.Opening.{open-ground-of};
 
+// The ground on which memory is no card.
 #[derive(Clone, Copy, PartialEq, Eq, Debug)]
 pub enum OpenFault {
     // the memory has a wrong length, or the count of blocks isn't 1 to 1,024

@@ -3,6 +3,7 @@ ghost use Prim.Native.Nat.{_≤_};
 ghost use mathlib.Core.Path.{_≡_};
 ghost use Rattle.bottoms.specs.Formats.{Format, Lawful, plain, rotating};
 
+// What a card asks of the way its blocks are kept.
 pub trait Placement: Copy + Default {
     // the places of a block, and what its state says
     ghost format: { Format };
@@ -10,7 +11,7 @@ pub trait Placement: Copy + Default {
     // what is written is shown, what is marked is lost, what is wiped shows its first place
     law lawful: { Lawful format };
 
-    // How many places a block has.
+    // How many places a block has. There are few, so that every place of a card has an address.
     fn places(&self) -> usize
         ensures count { λ r. ⌜ r ≡ format .places ⌝ }
         ensures few { λ r. ⌜ r ≤ 4 ⌝ };

@@ -9,6 +9,7 @@ use device::DeviceFault;
 use device::Sector;
 use std::fmt;
 
+// A sector, or why there is none to see.
 #[derive(Drop)]
 pub enum Seen {
     Sector(Sector),

@@ -6,6 +6,7 @@ use std::alloc::AllocError;
 use std::fmt;
 use std::io;
 
+// A refusal of a card or of a call, or a failure of the machine.
 #[derive(Drop)]
 pub enum Trouble {
     Open(OpenFault),

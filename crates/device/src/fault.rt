@@ -2,6 +2,7 @@
 ghost use mathlib.Core.Path.{_≡_};
 ghost use Rattle.device.specs.Answers.{ground-of, block-of};
 
+// The ground of a refusal, with the block that it names.
 #[derive(Clone, Copy, PartialEq, Eq, Debug)]
 pub enum DeviceFault {
     // the block number is not below the count

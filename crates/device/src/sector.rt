@@ -1,4 +1,6 @@
-// A sector, the unit that is read and written.
+// Sectors, the unit that is read and written.
+
+// The 64 bytes of a sector.
 pub type Sector = [u8; 64];
 
 // The sector of zeros.
