@@ -21,13 +21,7 @@ span places = 1 + 64 * places
 abbrev pub blocks-in : ℕ → ℕ → ℕ
 blocks-in len places = min (len / span places) 1024
 
--- where block n lies among so many bytes: the index i of its state, and the start of its first place
-pub record Located (len places n i first : ℕ) : Type 0 where
-  pub below : n < blocks-in len places
-  pub index : i ≡ n
-  pub start : first ≡ blocks-in len places + 64 * (places * n)
-  pub inside : first + 64 * places ≤ len
-
+-- how many blocks an image has
 abbrev pub count : Format → List ℕ → ℕ
 count F m = blocks-in (length m) (F .places)
 
@@ -56,6 +50,7 @@ abbrev pub showing : (ℕ → List ℕ) → Option ℕ → Shown
 showing at None = lost
 showing at (Some j) = sector (at j)
 
+-- what block n shows
 abbrev pub block : Format → List ℕ → ℕ → Shown
 block F m n = showing (place F m n) (F .shows (state m n))
 
@@ -88,11 +83,21 @@ overwritten at new m = take at m ++ (new ++ drop (at + length new) m)
 abbrev pub if-block : Format → List ℕ → ℕ → List ℕ → List ℕ
 if-block F m n changed = cond (ltb n (count F m)) changed m
 
+-- After a write the sector fills the next place, and the number of that place is the state.
 abbrev pub write-image : Format → List ℕ → ℕ → List ℕ → List ℕ
 write-image F m n s = if-block F m n (overwritten (place-at F (count F m) n (F .next (state m n))) s (set m n (F .next (state m n))))
 
+-- After a wipe every place of the block is zeros, and the state is 0.
 abbrev pub wipe-image : Format → List ℕ → ℕ → List ℕ
 wipe-image F m n = if-block F m n (overwritten (place-at F (count F m) n 0) (replicate (64 * F .places) 0) (set m n 0))
 
+-- After a mark the state alone has changed.
 abbrev pub mark-image : Format → List ℕ → ℕ → List ℕ
 mark-image F m n = if-block F m n (set m n (F .marked (state m n)))
+
+-- What the code finds when it looks for block n among so many bytes: the index i of its state, and the start of its first place.
+pub record Located (len places n i first : ℕ) : Type 0 where
+  pub below : n < blocks-in len places
+  pub index : i ≡ n
+  pub start : first ≡ blocks-in len places + 64 * (places * n)
+  pub inside : first + 64 * places ≤ len

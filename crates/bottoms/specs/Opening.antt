@@ -29,6 +29,7 @@ fits places len n = leb 1 n && (leb n 1024 && eqb len (span places * n))
 abbrev pub size-answer : ℕ → ℕ → ℕ → Result Unit OpenFault
 size-answer places len n = cond (fits places len n) (Ok tt) (Err WrongMemory)
 
+-- memory m, opened as n blocks
 abbrev pub opening : Format → List ℕ → ℕ → Opening
 opening F m n = cond (fits (F .places) (length m) n) (opened m) (rejected 2 m)
 

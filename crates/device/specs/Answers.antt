@@ -38,6 +38,7 @@ of-block d n a = cond (ltb n (length d)) a (refused 1 n)
 abbrev pub change-answer : List Shown → ℕ → Answer Unit
 change-answer d n = of-block d n (accepted tt)
 
+-- a read of block n, by what the block shows
 abbrev pub read-block : ℕ → Shown → Answer Unit
 read-block n lost = refused 9 n
 read-block n (sector s) = accepted tt

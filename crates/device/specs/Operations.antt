@@ -7,6 +7,7 @@ use lib.ListN.{length, set}
 use lib.Dec.{eqb}
 use Rattle.device.specs.Blocks.{Shown, lost, sector, shown-at, Held, _∈_, blank, is-blank}
 
+-- A write of a sector to a block, a wipe of a block, or its loss, which mark brings about.
 pub data Op : Type 0 where
   write : ℕ → List ℕ → Op
   wipe : ℕ → Op
