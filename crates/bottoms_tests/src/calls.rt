@@ -6,10 +6,10 @@ use bottoms::InPlacePlacement;
 use bottoms::Placement;
 use bottoms::Rotation;
 use bottoms::RotationPlacement;
-use device::BLANK;
 use device::Device;
 use device::DeviceFault;
 use device::DeviceFaultPartialEq;
+use device::blank_sector;
 use std::test::*;
 
 // Sectors held for the block after a sector, after a blank one over it, and after a wipe.
@@ -19,7 +19,7 @@ fn held<P: Placement>(memory: &mut [u8]) -> Result<(usize, usize, usize), Device
         Ok(mut card) => {
             card.write(0, &[7; 64])?;
             let written = card.held_count(0)?;
-            card.write(0, &BLANK)?;
+            card.write(0, &blank_sector())?;
             let blanked = card.held_count(0)?;
             card.wipe(0)?;
             Ok((written, blanked, card.held_count(0)?))
@@ -50,7 +50,7 @@ fn refusals<P: Placement>(
         Ok(mut card) => {
             let mark = card.mark(1);
             let read = card.read(1, &mut buffer);
-            let write = card.write(2, &BLANK);
+            let write = card.write(2, &blank_sector());
             (mark, read, write, buffer[63])
         }
     }

@@ -9,8 +9,8 @@ use bottoms::InPlacePlacement;
 use bottoms::Placement;
 use bottoms::Rotation;
 use bottoms::RotationPlacement;
-use device::BLANK;
 use device::Device;
+use device::blank_sector;
 use device::replace;
 use seen::Seen;
 use seen::SeenDisplay;
@@ -41,7 +41,7 @@ fn report<P: Placement>(rt: &LibcRuntime, step: &str, card: &mut Card<P>) -> Res
 fn zeros<P: Placement>(rt: &LibcRuntime, card: &mut Card<P>) -> Result<(), Trouble> {
     card.write(BLOCK, &sector_of(NAME))?;
     report(rt, "the name is written", card)?;
-    card.write(BLOCK, &BLANK)?;
+    card.write(BLOCK, &blank_sector())?;
     report(rt, "zeros are written over it", card)?;
     card.wipe(BLOCK)?;
     report(rt, "the block is wiped", card)

@@ -3,7 +3,6 @@ ghost use mathlib.Core.Path.{_≡_};
 ghost use mathlib.Core.List.{[]};
 ghost use Rattle.device.specs.Operations.{Ran};
 ghost use Rattle.card.specs.Seen.{seen-at, text-of, padded};
-use device::BLANK;
 use device::Device;
 use device::DeviceFault;
 use device::Sector;
@@ -22,7 +21,7 @@ impl Seen {
         ensures value { λ r. ⌜ r ≡ seen-at (shown (now (device .entry))) n ⌝ }
         ensures effect { λ _. ⌜ Ran [] (shown (now (device .entry))) (held (now (device .entry))) (shown (now (device .exit))) (held (now (device .exit))) ⌝ }
     {
-        let mut sector = BLANK;
+        let mut sector = [0; 64];
         match device.read(n, &mut sector) {
             Ok(()) => Seen::Sector(sector),
             Err(fault) => Seen::Refused(fault),
@@ -62,7 +61,7 @@ pub impl fmt::Display for Seen as SeenDisplay {
 pub(crate) fn sector_of(text: &str) -> Sector
     ensures { λ r. ⌜ r ≡ padded (now (text .entry)) ⌝ }
 {
-    let mut sector = BLANK;
+    let mut sector = [0; 64];
     let room = text.len().min(64);
     sector[0..room].copy_from_slice(&text.as_bytes()[0..room]);
     sector

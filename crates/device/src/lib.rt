@@ -9,6 +9,6 @@ pub use fault::DeviceFaultDebug;
 pub use fault::DeviceFaultEq;
 pub use fault::DeviceFaultPartialEq;
 pub use replacing::replace;
-pub use sector::BLANK;
 pub use sector::Sector;
+pub use sector::blank_sector;
 pub use traits::Device;
