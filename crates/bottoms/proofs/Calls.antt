@@ -25,7 +25,7 @@ use Rattle.device.specs.Blocks.{Shown, shown-at}
 use Rattle.device.specs.Operations.{Op}
 use Rattle.device.proofs.Answers.{answer-within, answer-past, read-within, buffer-within, buffer-past}
 use Rattle.bottoms.specs.Formats.{Format, Lawful}
-use Rattle.bottoms.specs.Images.{blocks-in, Located, count, state, place-at, place, place-in, showing, block, image-shown, counts, image-held, if-block, overwritten, Runs}
+use Rattle.bottoms.specs.Images.{blocks-in, Located, count, state, place-at, place, place-in, showing, block, image-shown, is-held, image-held, if-block, overwritten, Runs}
 use Rattle.bottoms.specs.Opening.{opened, rejected, fits, size-answer, opening}
 use Rattle.bottoms.specs.declared.fault.OpenFault.the-variants.{WrongMemory}
 use Rattle.bottoms.proofs.Bytes.{part-lent, put-is, zeros-are}
@@ -110,16 +110,16 @@ module _ (F : Format) (m : List ℕ) (n i a : ℕ) (found : Located (length m) (
           b ∙ ap (λ (x : Shown). filled x buffer) same-block ∙ sym (buffer-within (image-shown F m) n (block F m n) buffer e),
         )
 
-    held-here : length (kept-by (counts (place-in lent) o) (counting 0 (length lent / 64))) ≡ length (image-held F m n)
+    held-here : length (kept-by (is-held (place-in lent) o) (counting 0 (length lent / 64))) ≡ length (image-held F m n)
     held-here =
         let e : length lent / 64 ≡ F .places = omega (arith, long) in
-        ap (λ (q : ℕ). length (kept-by (counts (place-in lent) o) (counting 0 q))) e
-        ∙ sym (length-map (kept-by (counts (place-in lent) o) (counting 0 (F .places))) (place-in lent))
+        ap (λ (q : ℕ). length (kept-by (is-held (place-in lent) o) (counting 0 q))) e
+        ∙ sym (length-map (kept-by (is-held (place-in lent) o) (counting 0 (F .places))) (place-in lent))
         ∙ ap length (held-same (F .places) (place-in lent) (place F m n) o same-place)
-        ∙ ap (λ (x : Option ℕ). length (map (place F m n) (kept-by (counts (place F m n) x) (counting 0 (F .places))))) says-here
+        ∙ ap (λ (x : Option ℕ). length (map (place F m n) (kept-by (is-held (place F m n) x) (counting 0 (F .places))))) says-here
 
     -- what the code counted in the lent places
-    pub held-call : (r : ℕ) → r ≡ length (kept-by (counts (place-in lent) o) (counting 0 (length lent / 64)))
+    pub held-call : (r : ℕ) → r ≡ length (kept-by (is-held (place-in lent) o) (counting 0 (length lent / 64)))
         → accepted r ≡ of-block (image-shown F m) n (accepted (length (image-held F m n)))
     held-call r e = ap accepted (e ∙ held-here) ∙ within-answer (accepted (length (image-held F m n)))
 

@@ -18,7 +18,7 @@ use Rattle.device.specs.Blocks.{Shown, sector, shown-at, _∈_, blank, is-blank
 use Rattle.device.specs.Operations.{Op, write, wipe, lose, target, result, left-by, may-hold}
 use Rattle.device.proofs.Operations.{ran-past}
 use Rattle.bottoms.specs.Formats.{Format, Lawful}
-use Rattle.bottoms.specs.Images.{count, state, part, place-at, place, showing, block, image-shown, hidden, counts, image-held, overwritten, if-block, write-image, wipe-image, mark-image, Runs}
+use Rattle.bottoms.specs.Images.{count, state, part, place-at, place, showing, block, image-shown, hidden, is-held, image-held, overwritten, if-block, write-image, wipe-image, mark-image, Runs}
 use Rattle.bottoms.proofs.Bytes.{part-set, length-over, byte-over-before, part-over-before, part-over-after, part-over-inside}
 use Rattle.bottoms.proofs.Named.{held-same, held-blank, in-held, place-joined, shown-block}
 use Rattle.bottoms.proofs.Places.{count-same, places-before, places-inside}
@@ -57,7 +57,7 @@ module _ (F : Format) (laws : Lawful F) (m m′ : List ℕ) (n : ℕ) (len : len
 
   held-there : (k : ℕ) → k < count F m → (k ≡ n → ⊥) → image-held F m′ k ≡ image-held F m k
   held-there k h ne =
-      ap (λ (s : ℕ). map (place F m′ k) (kept-by (counts (place F m′ k) (F .shows s)) (counting 0 (F .places)))) (states k h ne)
+      ap (λ (s : ℕ). map (place F m′ k) (kept-by (is-held (place F m′ k) (F .shows s)) (counting 0 (F .places)))) (states k h ne)
       ∙ held-same (F .places) (place F m′ k) (place F m k) (F .shows (state m k)) (λ j low. places k j h ne low)
 
   -- the operation that block n went through

@@ -17,7 +17,7 @@ use Rattle.std.specs.declared.option.Option.the-variants.{Some, None}
 use Rattle.device.specs.Blocks.{Shown, lost, sector, shown-at, _∈_, is-blank}
 use Rattle.device.specs.Operations.{joined}
 use Rattle.bottoms.specs.Formats.{Format}
-use Rattle.bottoms.specs.Images.{count, state, place, showing, block, image-shown, hidden, counts, image-held}
+use Rattle.bottoms.specs.Images.{count, state, place, showing, block, image-shown, hidden, is-held, image-held}
 use Rattle.bottoms.specs.Named.{Named}
 use Rattle.bottoms.proofs.Places.{byte-placed}
 
@@ -94,26 +94,26 @@ length-kept-more p j =
 module _ (p : ℕ) where
   -- places alike, held alike
   pub held-same : (at at′ : ℕ → List ℕ) (o : Option ℕ) → ((j : ℕ) → j < p → at j ≡ at′ j)
-      → map at (kept-by (counts at o) (counting 0 p)) ≡ map at′ (kept-by (counts at′ o) (counting 0 p))
+      → map at (kept-by (is-held at o) (counting 0 p)) ≡ map at′ (kept-by (is-held at′ o) (counting 0 p))
   held-same at at′ o h =
-      kept-same at at′ (counts at o) (counts at′ o) (counting 0 p)
+      kept-same at at′ (is-held at o) (is-held at′ o) (counting 0 p)
       (λ j i. let e = h j (omega (arith, in-counting 0 p j i .1)) in (e, ap (λ (s : List ℕ). hidden o j && not (is-blank s)) e))
 
-  pub held-blank : (at : ℕ → List ℕ) (o : Option ℕ) → ((j : ℕ) → j < p → is-blank (at j) ≡ true) → map at (kept-by (counts at o) (counting 0 p)) ≡ []
+  pub held-blank : (at : ℕ → List ℕ) (o : Option ℕ) → ((j : ℕ) → j < p → is-blank (at j) ≡ true) → map at (kept-by (is-held at o) (counting 0 p)) ≡ []
   held-blank at o h =
-      ap (map at) (kept-none at (counts at o) (counting 0 p) (λ j i.
+      ap (map at) (kept-none at (is-held at o) (counting 0 p) (λ j i.
       let e = h j (omega (arith, in-counting 0 p j i .1)) in
       ap (λ (b : Bool). hidden o j && not b) e ∙ elim (hidden o j) as (λ b. (b && false) ≡ false) [ true ↦ refl | false ↦ refl ]))
 
-  pub in-held : (at : ℕ → List ℕ) (o : Option ℕ) (s : List ℕ) → s ∈ map at (kept-by (counts at o) (counting 0 p))
+  pub in-held : (at : ℕ → List ℕ) (o : Option ℕ) (s : List ℕ) → s ∈ map at (kept-by (is-held at o) (counting 0 p))
       → (j : ℕ) × (j < p) × (hidden o j ≡ true) × (s ≡ at j) × (is-blank s ≡ false)
   in-held at o s m =
-      let r = in-kept at (counts at o) (counting 0 p) s m in
+      let r = in-kept at (is-held at o) (counting 0 p) s m in
       let t = and-parts (hidden o (r .0)) (not (is-blank (at (r .0)))) (r .2) in
       (r .0, omega (arith, in-counting 0 p (r .0) (r .1) .1), t .0, r .3, ap is-blank (r .3) ∙ not-true (is-blank (at (r .0))) (t .1))
 
-  held-in : (at : ℕ → List ℕ) (o : Option ℕ) (j : ℕ) → j < p → hidden o j ≡ true → is-blank (at j) ≡ false → at j ∈ map at (kept-by (counts at o) (counting 0 p))
-  held-in at o j low t b = kept-in at (counts at o) (counting 0 p) j (counting-in 0 p j (omega arith) (omega arith)) (and-from (hidden o j) (not (is-blank (at j))) t (not-from-false (is-blank (at j)) b))
+  held-in : (at : ℕ → List ℕ) (o : Option ℕ) (j : ℕ) → j < p → hidden o j ≡ true → is-blank (at j) ≡ false → at j ∈ map at (kept-by (is-held at o) (counting 0 p))
+  held-in at o j low t b = kept-in at (is-held at o) (counting 0 p) j (counting-in 0 p j (omega arith) (omega arith)) (and-from (hidden o j) (not (is-blank (at j))) t (not-from-false (is-blank (at j)) b))
 
 not-hidden : (o : Option ℕ) (j : ℕ) → hidden o j ≡ false → o ≡ Some j
 not-hidden None j h = absurd (both-ways true h refl)

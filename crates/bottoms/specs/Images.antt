@@ -64,12 +64,12 @@ hidden None j = true
 hidden (Some k) j = not (eqb j k)
 
 -- place j counts as held: it isn't shown, and it isn't blank
-abbrev pub counts : (ℕ → List ℕ) → Option ℕ → ℕ → Bool
-counts at shows j = hidden shows j && not (is-blank (at j))
+abbrev pub is-held : (ℕ → List ℕ) → Option ℕ → ℕ → Bool
+is-held at shows j = hidden shows j && not (is-blank (at j))
 
 -- what the image holds for block n, in the order of the places
 abbrev pub image-held : Format → List ℕ → Held
-image-held F m n = map (place F m n) (kept-by (counts (place F m n) (F .shows (state m n))) (counting 0 (F .places)))
+image-held F m n = map (place F m n) (kept-by (is-held (place F m n) (F .shows (state m n))) (counting 0 (F .places)))
 
 -- operations that an image goes through, from m to m′, by what it shows and holds
 abbrev pub Runs : Format → List Op → List ℕ → List ℕ → Type 0

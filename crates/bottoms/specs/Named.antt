@@ -14,6 +14,6 @@ pub record Named (F : Format) (m : List ℕ) : Type 0 where
       → (shown-at (image-shown F m) n ≡ sector (place F m n j)) ⊎ (place F m n j ∈ image-held F m n)
   -- every sector held for a block is a place of the block that isn't blank
   pub only : (n : ℕ) (s : List ℕ) → s ∈ image-held F m n → (j : ℕ) × (j < F .places) × (s ≡ place F m n j) × (is-blank s ≡ false)
-  -- every byte after the states is one of a place
+  -- every byte after the states is one of a place, up to the length that an image of so many blocks has
   pub covers : (i : ℕ) → count F m ≤ i → i < span (F .places) * count F m
       → (n : ℕ) × (j : ℕ) × (k : ℕ) × (n < count F m) × (j < F .places) × (k < 64) × (i ≡ place-at F (count F m) n j + k)

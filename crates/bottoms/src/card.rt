@@ -94,7 +94,11 @@ pub impl<P: Placement> Device for Card<'_, P> as CardDevice {
 
     ghost held = { λ d. image-held (P·Placement .format) (now (d .bytes)) };
 
-    fn count(&self) -> u32 {
+    fn count(&self) -> u32
+        ensures count { λ r. ⌜ r ≡ length (image-shown (P·Placement .format) (now (now (self .entry) .bytes))) ⌝ }
+        ensures most { λ r. ⌜ r ≤ 1024 ⌝ }
+        ensures image { λ _. ⌜ now (now (self .exit) .bytes) ≡ now (now (self .entry) .bytes) ⌝ }
+    {
         count_blocks(self.bytes.len(), self.placement.places())
     }
 
@@ -144,7 +148,7 @@ pub impl<P: Placement> Device for Card<'_, P> as CardDevice {
         Ok(())
     }
 
-    // A card holds nothing back.
+    // No write waits in a card.
     fn flush(&mut self)
         ensures effect { λ _. ⌜ Runs (P·Placement .format) [] (now (now (self .entry) .bytes)) (now (now (self .exit) .bytes)) ⌝ }
         ensures image { λ _. ⌜ now (now (self .exit) .bytes) ≡ now (now (self .entry) .bytes) ⌝ }

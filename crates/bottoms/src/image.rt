@@ -10,7 +10,7 @@ ghost use Rattle.std.specs.shelf.Lists.{kept-by};
 ghost use Rattle.device.specs.declared.fault.DeviceFault.the-variants.{NoBlock};
 ghost use Rattle.device.specs.Blocks.{is-blank};
 ghost use Rattle.device.specs.Answers.{answer-of, read-block, filled};
-ghost use Rattle.bottoms.specs.Images.{blocks-in, Located, place-in, showing, hidden, counts};
+ghost use Rattle.bottoms.specs.Images.{blocks-in, Located, place-in, showing, hidden, is-held};
 ghost use Rattle.bottoms.specs.Opening.{size-answer};
 use crate::fault::OpenFault;
 use device::DeviceFault;
@@ -98,14 +98,14 @@ fn is_hidden(shown: Option<usize>, j: usize) -> bool
 // Whether place j counts as held: it isn't shown, and it isn't blank.
 fn is_held(places: &[u8], shown: Option<usize>, j: usize) -> bool
     requires { ⌜ 64 * j + 64 ≤ length (now places) ⌝ }
-    ensures { λ r. ⌜ r ≡ counts (place-in (now (places .entry))) shown j ⌝ }
+    ensures { λ r. ⌜ r ≡ is-held (place-in (now (places .entry))) shown j ⌝ }
 {
     is_hidden(shown, j) && !is_blank(&places[64 * j..64 * j + 64])
 }
 
 // How many of a block's places hold a sector that isn't blank, beside the one shown.
 pub(crate) fn count_held(places: &[u8], shown: Option<usize>) -> usize
-    ensures { λ r. ⌜ r ≡ length (kept-by (counts (place-in (now (places .entry))) shown) (counting 0 (length (now (places .entry)) / 64))) ⌝ }
+    ensures { λ r. ⌜ r ≡ length (kept-by (is-held (place-in (now (places .entry))) shown) (counting 0 (length (now (places .entry)) / 64))) ⌝ }
 {
     let mut held = 0;
     for j in 0..places.len() / 64 {

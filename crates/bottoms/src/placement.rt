@@ -11,7 +11,7 @@ pub trait Placement: Copy + Default {
     // what is written is shown, what is marked is lost, what is wiped shows its first place
     law lawful: { Lawful format };
 
-    // How many places a block has. There are few, so that every place of a card has an address.
+    // How many places a block has: at most four, so that no offset into a card overflows.
     fn places(&self) -> usize
         ensures count { λ r. ⌜ r ≡ format .places ⌝ }
         ensures few { λ r. ⌜ r ≤ 4 ⌝ };
@@ -29,7 +29,7 @@ pub trait Placement: Copy + Default {
         ensures { λ r. ⌜ r ≡ format .marked state ⌝ };
 }
 
-// the state of a lost block that is kept in place
+// the state that a mark leaves on a plain card
 const LOST: u8 = 1;
 
 // One place, which is written over. State 0 is sound, and any other is lost.

@@ -1,4 +1,6 @@
 // What can go wrong in the program.
+ghost use mathlib.Core.Path.{_≡_};
+ghost use Rattle.card.specs.declared.trouble.Trouble.the-variants.{Open, Device, Io, Memory};
 use bottoms::OpenFault;
 use bottoms::Refused;
 use device::DeviceFault;
@@ -16,24 +18,32 @@ pub enum Trouble {
 }
 
 pub impl From<Refused<'_>> for Trouble as TroubleFromRefused {
+    ghost converts = { λ refusal r. r ≡ Open (refusal .fault) };
+
     fn from(refused: Refused<'_>) -> Trouble {
         Trouble::Open(refused.fault)
     }
 }
 
 pub impl From<DeviceFault> for Trouble as TroubleFromDevice {
+    ghost converts = { λ fault r. r ≡ Device fault };
+
     fn from(fault: DeviceFault) -> Trouble {
         Trouble::Device(fault)
     }
 }
 
 pub impl From<AllocError> for Trouble as TroubleFromAlloc {
+    ghost converts = { λ _ r. r ≡ Memory };
+
     fn from(_: AllocError) -> Trouble {
         Trouble::Memory
     }
 }
 
 pub impl From<io::Error> for Trouble as TroubleFromIo {
+    ghost converts = { λ error r. r ≡ Io error };
+
     fn from(error: io::Error) -> Trouble {
         Trouble::Io(error)
     }

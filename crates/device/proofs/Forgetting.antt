@@ -1,5 +1,5 @@
 -- Where a held sector comes from: it was held or shown before, or was written.
-use mathlib.Core.Path.{_≡_, refl, sym, ap, _∙_}
+use mathlib.Core.Path.{_≡_, refl, sym, ap, subst, _∙_}
 use mathlib.Core.List.{List, [], _∷_, List·Memᴰ·head, List·Memᴰ·tail, List·Memᴰ·cases-cons, List·Memᴰ·not-nil}
 use mathlib.Core.Logic.{_⊎_, inl, inr, ⊎-elim}
 use mathlib.Core.Bool.{true, false, cond}
@@ -11,7 +11,7 @@ use Rattle.std.proofs.shelf.Tests.{both-ways, cases-eq, cond-true, cond-false, 
 use Rattle.device.specs.Blocks.{Shown, lost, sector, shown-at, Held, _∈_, blank, is-blank}
 use Rattle.device.specs.Operations.{Op, write, wipe, lose, target, result, block-after, joined, left-by, may-hold, may-hold-all, Ran}
 use Rattle.device.specs.Forgetting.{Forgot-all-but}
-use Rattle.device.proofs.Operations.{count-after-all, shown-after-all, replaced-holds}
+use Rattle.device.proofs.Operations.{count-after-all, shown-after-all, ran-++}
 
 -- where a sector that may join comes from
 in-joined : (c : Shown) (kept : List (List ℕ)) (x : List ℕ) → x ∈ joined c kept → (c ≡ sector x) ⊎ (x ∈ kept)
@@ -67,11 +67,23 @@ forgot-all-but s n d h l shows none os d′ h′ run x m b =
     (λ r. ⊎-elim (λ (i : x ∈ h n). absurd (none x i)) inr r)
     (held-from os n (shown-at d n) (h n) x b (run .holds n l x m))
 
--- one that is wiped and then written
-pub replaced-forgot : (n : ℕ) (x : List ℕ) (d d′ : List Shown) (h h′ : Held) → Ran (wipe n ∷ write n x ∷ []) d h d′ h′ → n < length d → Forgot-all-but x n d′ h′
-replaced-forgot n x d d′ h h′ run l = forgot-all-but x n d′ h′ here shows (replaced-holds n x d d′ h h′ run l) where
-  here : n < length d′
-  here = omega (arith, ap length (run .shows), count-after-all (wipe n ∷ write n x ∷ []) d)
+-- A wipe and then a write of block n: both run, and the block holds nothing and has forgotten all but what was written.
+module _ (n : ℕ) (x : List ℕ) (d d₁ d₂ : List Shown) (h h₁ h₂ : Held) (wiped : Ran (wipe n ∷ []) d h d₁ h₁) (written : Ran (write n x ∷ []) d₁ h₁ d₂ h₂) where
+  run : Ran (wipe n ∷ write n x ∷ []) d h d₂ h₂
+  run = ran-++ (wipe n ∷ []) (write n x ∷ []) d d₁ d₂ h h₁ h₂ wiped written
 
-  shows : shown-at d′ n ≡ sector x
-  shows = ap (λ (y : List Shown). shown-at y n) (run .shows) ∙ shown-after-all (wipe n ∷ write n x ∷ []) d n l ∙ cond-true (eqb n n) (sector x) _ (eq-eqb n n refl)
+  nothing : n < length d → (s : List ℕ) → s ∈ h₂ n → ⊥
+  nothing l s m = List·Memᴰ·not-nil (subst (λ (z : List (List ℕ)). s ∈ z) none (run .holds n l s m)) where
+    none : may-hold-all (wipe n ∷ write n x ∷ []) n (shown-at d n) (h n) ≡ []
+    none = simp (eq-eqb n n refl)
+
+  forgot : n < length d → Forgot-all-but x n d₂ h₂
+  forgot l = forgot-all-but x n d₂ h₂ here shows (nothing l) where
+    here : n < length d₂
+    here = omega (arith, ap length (run .shows), count-after-all (wipe n ∷ write n x ∷ []) d)
+
+    shows : shown-at d₂ n ≡ sector x
+    shows = ap (λ (y : List Shown). shown-at y n) (run .shows) ∙ shown-after-all (wipe n ∷ write n x ∷ []) d n l ∙ cond-true (eqb n n) (sector x) _ (eq-eqb n n refl)
+
+  pub replaced : Ran (wipe n ∷ write n x ∷ []) d h d₂ h₂ × (n < length d → (s : List ℕ) → s ∈ h₂ n → ⊥) × (n < length d → Forgot-all-but x n d₂ h₂)
+  replaced = (run, nothing, forgot)

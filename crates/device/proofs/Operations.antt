@@ -1,6 +1,6 @@
 -- Operations one after the other: lists of them joined, and one block seen alone.
 use mathlib.Core.Path.{_≡_, refl, sym, ap, subst, _∙_}
-use mathlib.Core.List.{List, [], _∷_, _++_, List·Memᴰ·head, List·Memᴰ·tail, List·Memᴰ·cases-cons, List·Memᴰ·not-nil}
+use mathlib.Core.List.{List, [], _∷_, _++_, List·Memᴰ·head, List·Memᴰ·tail, List·Memᴰ·cases-cons}
 use mathlib.Core.Logic.{_⊎_, ⊎-elim}
 use mathlib.Core.Bool.{true, false, cond}
 use Prim.Native.Nat.{ℕ, _<_, _≤_}
@@ -89,9 +89,3 @@ ran-past o d h past =
       shows = sym (set-past d (target o) (result o) past);
       holds = λ n l s m. let ne : n ≡ target o → ⊥ = λ e. omega arith in subst (λ (x : List (List ℕ)). s ∈ x) (sym (cond-false (eqb n (target o)) (left-by o (shown-at d n) (h n)) (h n) (ne-eqb n (target o) ne))) m;
     }
-
--- a block that is wiped and then written holds nothing
-pub replaced-holds : (n : ℕ) (x : List ℕ) (d d′ : List Shown) (h h′ : Held) → Ran (wipe n ∷ write n x ∷ []) d h d′ h′ → n < length d → (s : List ℕ) → s ∈ h′ n → ⊥
-replaced-holds n x d d′ h h′ run l s m = List·Memᴰ·not-nil (subst (λ (z : List (List ℕ)). s ∈ z) none (run .holds n l s m)) where
-  none : may-hold-all (wipe n ∷ write n x ∷ []) n (shown-at d n) (h n) ≡ []
-  none = simp (eq-eqb n n refl)

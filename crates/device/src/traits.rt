@@ -43,7 +43,7 @@ pub trait Device {
         ensures answer { λ r. ⌜ answer-of r ≡ change-answer (shown (now (self .entry))) n ⌝ }
         ensures effect { λ _. ⌜ Ran (lose n ∷ []) (shown (now (self .entry))) (held (now (self .entry))) (shown (now (self .exit))) (held (now (self .exit))) ⌝ };
 
-    // Brings what is held back down to where it is kept; no block shows anything else.
+    // Passes writes that wait in a layer down to where they are kept; no block shows anything else.
     fn flush(&mut self)
         ensures effect { λ _. ⌜ Ran [] (shown (now (self .entry))) (held (now (self .entry))) (shown (now (self .exit))) (held (now (self .exit))) ⌝ };
 }

@@ -3,7 +3,7 @@ use mathlib.Core.Path.{sym, _∙_}
 use Prim.Native.Nat.{ℕ}
 use native.Mathlib.Omega.{arith}
 use Rattle.std.proofs.shelf.Tests.{cond-true, cond-false}
-use Rattle.bottoms.specs.Images.{place-in, counts}
+use Rattle.bottoms.specs.Images.{place-in, is-held}
 use Rattle.bottoms.proofs.Named.{length-kept-more}
 use Rattle.bottoms.proofs.image.count_held.Needs as need
 use Rattle.bottoms.proofs.image.count_held.Needs.{then-is-held, else-is-held}
@@ -11,7 +11,7 @@ use Rattle.bottoms.proofs.image.count_held.Needs.{then-is-held, else-is-held}
 pub loop-j-again : need.loop-j-again
 loop-j-again c =
     let j = c .loop-j .j in
-    let p = counts (place-in (c .args .places .now)) (c .args .shown) in
+    let p = is-held (place-in (c .args .places .now)) (c .args .shown) in
     let more = length-kept-more p j in
     let is = sym (c .is-held .ensures) in
     elim (c .if-is-held .came) [
