@@ -1,4 +1,6 @@
 // Shows what a card still holds: a name is written to a block, then "erased" with zeros, lost, wiped or replaced.
+#![tactic(auto)]
+
 mod pile;
 mod seen;
 mod trouble;

@@ -1,4 +1,6 @@
 // Block devices: what one is, what it refuses, and the trait that every card and layer implements.
+#![tactic(auto)]
+
 mod fault;
 mod replacing;
 mod sector;

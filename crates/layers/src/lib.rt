@@ -1,4 +1,6 @@
 // Layers over block devices: a cache of late writes, and a mirror of two devices. Any pile of them is again a device.
+#![tactic(auto)]
+
 mod cache;
 mod caching;
 mod check;

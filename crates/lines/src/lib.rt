@@ -1,4 +1,6 @@
 // The lines of a cache of late writes: a table of four, each empty or with a sector that waits for one block.
+#![tactic(auto)]
+
 mod line;
 mod table;
 mod tables;
