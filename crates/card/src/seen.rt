@@ -16,8 +16,8 @@ pub enum Seen {
 impl Seen {
     // What block n shows. The device is as it was.
     pub(crate) fn read<D: Device>(device: &mut D, n: u32) -> Seen
-        ensures value { result ≡ seen_at (shown device.old) n }
-        ensures effect { Ran [] (shown device.old) (held device.old) (shown device.new) (held device.new) }
+        ensures value { result ≡ seen_at (D.shown device.old) n }
+        ensures effect { Ran [] (D.shown device.old) (D.held device.old) (D.shown device.new) (D.held device.new) }
     {
         let mut sector = [0; 64];
         match device.read(n, &mut sector) {

@@ -12,10 +12,10 @@ use crate::traits::Device;
 // Wipes block n, then writes the sector: it shows the sector and nothing is held for it, and nothing that is done later brings back what
 // it showed or held before.
 pub fn replace<D: Device>(device: &mut D, n: u32, s: &Sector) -> Result<(), DeviceFault>
-    ensures answer { answer_of result ≡ change_answer (shown device.old) n }
-    ensures effect { Ran (wipe n ∷ write n s.now ∷ []) (shown device.old) (held device.old) (shown device.new) (held device.new) }
-    ensures nothing { n < length (shown device.old) → (x : List ℕ) → x ∈ held device.new n → ⊥ }
-    ensures forgot { n < length (shown device.old) → ForgotAllBut s.now n (shown device.new) (held device.new) }
+    ensures answer { answer_of result ≡ change_answer (D.shown device.old) n }
+    ensures effect { Ran (wipe n ∷ write n s.now ∷ []) (D.shown device.old) (D.held device.old) (D.shown device.new) (D.held device.new) }
+    ensures nothing { n < length (D.shown device.old) → (x : List ℕ) → x ∈ D.held device.new n → ⊥ }
+    ensures forgot { n < length (D.shown device.old) → ForgotAllBut s.now n (D.shown device.new) (D.held device.new) }
 {
     device.wipe(n)?;
     device.write(n, s)
