@@ -10,6 +10,6 @@ returns c =
     let len = c.args.len in
     let p = c.args.places in
     let n = c.args.n in
-    let e = c.count-blocks-count.ensures in
-    let low : n < blocks_in len p = omega (arith, ltb-true n c.count-blocks-count.result (sym c.if-not-is-below.ensures)) in
+    let e = c.count_blocks-count.ensures in
+    let low : n < blocks_in len p = omega (arith, ltb-true n c.count_blocks-count.result (sym c.if-not-is_below.ensures)) in
     record { below = low; index = refl; start = ap (λ (k : ℕ). k + 64 * (p * n)) e; inside = omega (arith, places_inside len p n low) }

@@ -36,5 +36,5 @@ returns c =
     let text = c.args.text.now in
     let room = c.min-room.result in
     let e : room - 0 ≡ room = omega arith in
-    let part : c.copy-from-slice.new.self ≡ take room text = c.copy-from-slice.ensures.after ∙ ap (take (room - 0)) c.as-bytes.ensures.value ∙ ap (λ (k : ℕ). take k text) e in
+    let part : c.copy_from_slice.new.self ≡ take room text = c.copy_from_slice.ensures.after ∙ ap (take (room - 0)) c.as_bytes.ensures.value ∙ ap (λ (k : ℕ). take k text) e in
     ap (λ (x : List ℕ). x ++ post_of 0 (room - 0) blank) part ∙ ap (λ (k : ℕ). take room text ++ drop k blank) e ∙ filled text room c.min-room.ensures

@@ -5,5 +5,5 @@ use Rattle.bottoms.proofs.card.CardDevice.count.Goals as goal
 
 pub returns : goal.returns
 returns g c =
-    let w = count_call g.P.Placement.format c.args.self.now.bytes.now c.places.result c.count-blocks.result c.places.ensures.count c.count-blocks.ensures in
+    let w = count_call g.P.Placement.format c.args.self.now.bytes.now c.places.result c.count_blocks.result c.places.ensures.count c.count_blocks.ensures in
     record { count = w.0; most = w.1; image = refl {a = c.args.self.now.bytes.now} }

@@ -5,14 +5,14 @@ use Rattle.device.specs.Operations.{lose}
 use Rattle.layers.proofs.CacheCalls.{drop_past, drop_within}
 use Rattle.layers.proofs.caching.CacheDevice.mark.Goals as goal
 
-pub returns-in-err-check-block : goal.returns-in-err-check-block
-returns-in-err-check-block g c =
-    let w = drop_past g.D.Device (lose c.args.n) c.args.self.now (omega (arith, c.in-err-check-block.ensures.0)) in
-    let p = err_from_is_err_and c.from-residual.result c.from-residual.ensures.1 in
-    rw (p.1, p.2, c.in-err-check-block.ensures.1) (record { answer = w.answer; effect = w.effect; lines = w.lines; turn = w.turn; below = w.below })
+pub returns-in_err-check_block : goal.returns-in_err-check_block
+returns-in_err-check_block g c =
+    let w = drop_past g.D.Device (lose c.args.n) c.args.self.now (omega (arith, c.in_err-check_block.ensures.0)) in
+    let p = err_from_is_err_and c.from_residual.result c.from_residual.ensures.1 in
+    rw (p.1, p.2, c.in_err-check_block.ensures.1) (record { answer = w.answer; effect = w.effect; lines = w.lines; turn = w.turn; below = w.below })
 
 pub returns : goal.returns
 returns g c =
-    let done = c.mark-through.ensures in
-    let w = drop_within g.D.Device (lose c.args.n) c.args.self.now c.mark-through.new.self (omega (arith, c.in-ok-check-block.ensures)) done.lines done.turn done.below in
+    let done = c.mark_through.ensures in
+    let w = drop_within g.D.Device (lose c.args.n) c.args.self.now c.mark_through.new.self (omega (arith, c.in_ok-check_block.ensures)) done.lines done.turn done.below in
     record { answer = w.answer; effect = w.effect; lines = w.lines; turn = w.turn; below = w.below }

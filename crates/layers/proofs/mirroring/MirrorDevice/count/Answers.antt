@@ -5,5 +5,5 @@ use Rattle.layers.proofs.mirroring.MirrorDevice.count.Goals as goal
 
 pub returns : goal.returns
 returns g c =
-    let e = c.smaller-count.ensures.value in
-    record { count = is_count (g.A.Device.shown c.args.self.now.a) (g.B.Device.shown c.args.self.now.b) _ e; most = c.smaller-count.ensures.most; smaller = e; named = mirror_named g.A.Device g.B.Device c.args.self.now }
+    let e = c.smaller_count.ensures.value in
+    record { count = is_count (g.A.Device.shown c.args.self.now.a) (g.B.Device.shown c.args.self.now.b) _ e; most = c.smaller_count.ensures.most; smaller = e; named = mirror_named g.A.Device g.B.Device c.args.self.now }

@@ -4,16 +4,16 @@ use Rattle.device.specs.Operations.{lose}
 use Rattle.layers.proofs.MirrorCalls.{beyond, inside_of, changed_past, changed_within}
 use Rattle.layers.proofs.mirroring.MirrorDevice.mark.Goals as goal
 
-pub returns-in-err-check-block : goal.returns-in-err-check-block
-returns-in-err-check-block g c =
-    let past = beyond _ _ c.args.n c.smaller-count.result c.smaller-count.ensures.value c.in-err-check-block.ensures.0 in
+pub returns-in_err-check_block : goal.returns-in_err-check_block
+returns-in_err-check_block g c =
+    let past = beyond _ _ c.args.n c.smaller_count.result c.smaller_count.ensures.value c.in_err-check_block.ensures.0 in
     let w = changed_past g.A.Device g.B.Device (lose c.args.n) c.args.self.now past in
-    let p = err_from_is_err_and c.from-residual.result c.from-residual.ensures.1 in
-    rw (p.1, p.2, c.in-err-check-block.ensures.1) (record { answer = w.answer; effect = w.effect; first = w.first; second = w.second })
+    let p = err_from_is_err_and c.from_residual.result c.from_residual.ensures.1 in
+    rw (p.1, p.2, c.in_err-check_block.ensures.1) (record { answer = w.answer; effect = w.effect; first = w.first; second = w.second })
 
 pub returns : goal.returns
 returns g c =
-    let inside = inside_of _ _ c.args.n c.smaller-count.result c.smaller-count.ensures.value c.in-ok-check-block.ensures in
-    let done = c.mark-sides.ensures in
-    let w = changed_within g.A.Device g.B.Device (lose c.args.n) c.args.self.now c.mark-sides.new.self inside done.first done.second in
+    let inside = inside_of _ _ c.args.n c.smaller_count.result c.smaller_count.ensures.value c.in_ok-check_block.ensures in
+    let done = c.mark_sides.ensures in
+    let w = changed_within g.A.Device g.B.Device (lose c.args.n) c.args.self.now c.mark_sides.new.self inside done.first done.second in
     record { answer = w.answer; effect = w.effect; first = w.first; second = w.second }

@@ -3,12 +3,12 @@ use Rattle.std.proofs.Common.{◌<◌, length, sym, arith}
 use Rattle.lines.proofs.Lines.{position_read, position_none}
 use Rattle.lines.proofs.table.Table.find.Goals as goal
 
-pub returns-then-is-for : goal.returns-then-is-for
-returns-then-is-for c =
+pub returns-then-is_for : goal.returns-then-is_for
+returns-then-is_for c =
     let ls = c.args.self.now.lines in
     let i = c.loop-i.i in
     let h : i < length ls = omega (arith, c.args.self.now.four) in
-    record { value = position_read ls c.args.block i c.at.result h c.at.ensures c.if-is-for.ensures c.loop-i.invariant; within = omega arith }
+    record { value = position_read ls c.args.block i c.at.result h c.at.ensures c.if-is_for.ensures c.loop-i.invariant; within = omega arith }
 
 pub returns : goal.returns
 returns c =

@@ -25,12 +25,12 @@ module _ (table : Table) (n i : ℕ) (o : Option ℕ) (found : o ≡ room table 
     only = subst (λ (x : Line). OnlyIn table.lines i x.block) (sym new) (subst (λ (k : ℕ). OnlyIn table.lines k (Some n)) is_taken (taken_only table n))
 
 pub at-requires : goal.at-requires
-at-requires c = below c.args.self c.args.n _ _ c.room-room.ensures c.unwrap-or-i.ensures
+at-requires c = below c.args.self c.args.n _ _ c.room-room.ensures c.unwrap_or-i.ensures
 
 pub put-table-requires : goal.put-table-requires
 put-table-requires c =
     let table = c.args.self in
     let n = c.args.n in
     let found = c.room-room.ensures in
-    let at = c.unwrap-or-i.ensures in
-    (below table n _ _ found at, c.turn-after.ensures.within, clean table n _ _ found at _ _ c.of.ensures, only table n _ _ found at _ _ c.of.ensures)
+    let at = c.unwrap_or-i.ensures in
+    (below table n _ _ found at, c.turn_after.ensures.within, clean table n _ _ found at _ _ c.of.ensures, only table n _ _ found at _ _ c.of.ensures)
