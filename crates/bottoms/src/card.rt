@@ -85,7 +85,7 @@ impl<P: Placement> Device for Card<'_, P> {
     fn count(&self) -> u32
         ensures count { result ≡ length (image_shown P.Placement.format self.now.bytes.now) }
         ensures most { result ≤ 1024 }
-        ensures image { self.now.bytes.now ≡ self.now.bytes.now }
+        ensures image { self.exit.now.bytes.now ≡ self.entry.now.bytes.now }
     {
         count_blocks(self.bytes.len(), self.placement.places())
     }

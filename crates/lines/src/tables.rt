@@ -142,10 +142,10 @@ impl Table {
 
     // The table with another line i, which leaves it sound, and another turn.
     fn put(self, i: usize, line: Line, turn: usize) -> Table
-        requires i_bound { i < 4 }
-        requires turn_bound { turn < 4 }
-        requires bytes_value { line.block ≡ None → line.bytes ≡ blank }
-        requires only_in { OnlyIn self.lines i line.block }
+        requires within { i < 4 }
+        requires turning { turn < 4 }
+        requires blank { line.block ≡ None → line.bytes ≡ blank }
+        requires alone { OnlyIn self.lines i line.block }
         ensures lines { result.lines ≡ slice_set self.lines i line }
         ensures turn { result.turn ≡ turn }
     {

@@ -33,4 +33,9 @@ put-table-requires c =
     let n = c.args.n in
     let found = c.room-room.ensures in
     let at = c.unwrap_or-i.ensures in
-    (below table n _ _ found at, c.turn_after.ensures.within, clean table n _ _ found at _ _ c.of.ensures, only table n _ _ found at _ _ c.of.ensures)
+    record {
+      within = below table n _ _ found at;
+      turning = c.turn_after.ensures.within;
+      blank = clean table n _ _ found at _ _ c.of.ensures;
+      alone = only table n _ _ found at _ _ c.of.ensures;
+    }
