@@ -1,6 +1,7 @@
 // Shows what a card still holds: a name is written to a block, then "erased" with zeros, lost, wiped or replaced.
 #![tactic(auto)]
 
+#[cfg(test)]
 mod pile;
 mod seen;
 mod trouble;
@@ -8,6 +9,7 @@ mod trouble;
 use bottoms::{Card, InPlace, Placement, Rotation};
 use device::{Device, blank_sector, replace};
 use seen::{Seen, sector_of};
+use std::process::ExitCode;
 use trouble::Trouble;
 
 const BLOCKS: u32 = 4;
@@ -73,10 +75,12 @@ fn run(rt: &HostRuntime) -> Result<(), Trouble> {
     Ok(())
 }
 
-fn main(rt: HostRuntime) -> Result<(), Trouble> {
-    let done = run(&rt);
-    if let Err(trouble) = &done {
-        eprintln!(rt; "card: {trouble}")?;
+fn main(rt: HostRuntime) -> ExitCode {
+    match run(&rt) {
+        Ok(()) => ExitCode::SUCCESS,
+        Err(trouble) => {
+            let _ = eprintln!(rt; "card: {trouble}");
+            ExitCode::FAILURE
+        }
     }
-    done
 }

@@ -1,4 +1,4 @@
-// The story of a pile: a cache over a mirror of a plain and a rotating card.
+// The story of a pile: a cache over a mirror of a plain and a rotating card. So far only a test tells it.
 use crate::seen::{Seen, sector_of};
 use crate::trouble::Trouble;
 use crate::{BLOCK, BLOCKS, NAME};
@@ -56,7 +56,7 @@ fn wiped(rt: &HostRuntime, pile: &mut Pile) -> Result<(), Trouble> {
 }
 
 // All three on a new pile.
-pub(crate) fn story(rt: &HostRuntime) -> Result<(), Trouble> {
+fn story(rt: &HostRuntime) -> Result<(), Trouble> {
     let mut first = [0u8; 260];
     let mut second = [0u8; 1028];
     let plain = Plain::open(&mut first, BLOCKS)?;
@@ -65,4 +65,10 @@ pub(crate) fn story(rt: &HostRuntime) -> Result<(), Trouble> {
     comes_back(rt, &mut pile)?;
     repaired(rt, &mut pile)?;
     wiped(rt, &mut pile)
+}
+
+// No step of it is refused.
+#[test]
+fn no_step_is_refused(rt: HostRuntime) {
+    assert!(rt; story(&rt).is_ok());
 }
