@@ -79,7 +79,6 @@ impl<P: Placement> Device for Card<'_, P> {
 
     ghost held = { λ d. image_held P.Placement.format d.bytes.now };
 
-    // no write waits in a card
     ghost settled = { λ _. true };
 
     fn count(&self) -> u32
@@ -136,6 +135,7 @@ impl<P: Placement> Device for Card<'_, P> {
         Ok(())
     }
 
+    // No write waits in a card.
     fn flush(&mut self)
         ensures settles { true ≡ true }
         ensures effect { Runs P.Placement.format [] self.old.bytes.now self.new.bytes.now }

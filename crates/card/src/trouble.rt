@@ -8,7 +8,7 @@ use std::alloc::AllocError;
 use std::{fmt, io};
 
 // A refusal of a card or of a call, or a failure of the machine.
-#[derive(Drop)]
+#[derive(Debug, Drop)]
 pub enum Trouble {
     Open(OpenFault),
     Device(DeviceFault),

@@ -144,7 +144,7 @@ impl Table {
     fn put(self, i: usize, line: Line, turn: usize) -> Table
         requires within { i < 4 }
         requires turning { turn < 4 }
-        requires blank { line.block ≡ None → line.bytes ≡ blank }
+        requires clean { line.block ≡ None → line.bytes ≡ blank }
         requires alone { OnlyIn self.lines i line.block }
         ensures lines { result.lines ≡ slice_set self.lines i line }
         ensures turn { result.turn ≡ turn }

@@ -14,6 +14,6 @@ invariant_of-result c =
     record {
       four = length-set ls i l ∙ table.four;
       turning = c.requires.turning;
-      clean = clean_set ls i l inside table.clean c.requires.blank;
+      clean = clean_set ls i l inside table.clean c.requires.clean;
       apart = apart_set ls i l inside table.apart c.requires.alone;
     }

@@ -36,6 +36,6 @@ put-table-requires c =
     record {
       within = below table n _ _ found at;
       turning = c.turn_after.ensures.within;
-      blank = clean table n _ _ found at _ _ c.of.ensures;
+      clean = clean table n _ _ found at _ _ c.of.ensures;
       alone = only table n _ _ found at _ _ c.of.ensures;
     }
