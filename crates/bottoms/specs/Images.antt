@@ -1,5 +1,5 @@
 -- The image of a card: N state bytes, then for each block its places. What it shows and holds, and what each call makes of it.
-use Rattle.std.specs.Prelude.{◌≡◌, ℕ, ◌+◌, ◌*◌, ◌/◌, ◌<◌, ◌≤◌, min, Bool, true, cond, not, ◌&&◌, List, ◌++◌, map, length, take, drop, replicate, Some, None, filter, Option, ◌==◌, nat_lt, slice_index, slice_set}
+use Rattle.std.specs.Prelude.{◌≡◌, ℕ, ◌+◌, ◌*◌, ◌/◌, ◌<◌, ◌≤◌, min, Bool, true, if◌then◌else◌, not, ◌&&◌, List, ◌++◌, map, length, take, drop, replicate, Some, None, filter, Option, ◌==◌, nat_lt, slice_index, slice_set}
 use Rattle.std.specs.List.{range_with_len}
 use Rattle.device.specs.Blocks.{Shown, lost, sector, Held, is_blank}
 use Rattle.device.specs.Operations.{Op, Ran}
@@ -73,7 +73,7 @@ overwritten at new m = take at m ++ (new ++ drop (at + length new) m)
 
 -- the image after a call that names block n: as given, and unchanged where there is no such block
 abbrev pub if_block : Format → List ℕ → ℕ → List ℕ → List ℕ
-if_block F m n changed = cond (nat_lt n (count F m)) changed m
+if_block F m n changed = if nat_lt n (count F m) then changed else m
 
 -- After a write the sector fills the next place, and the number of that place is the state.
 abbrev pub write_image : Format → List ℕ → ℕ → List ℕ → List ℕ

@@ -1,5 +1,5 @@
 -- What opening a card answers.
-use Rattle.std.specs.Prelude.{ℕ, ◌*◌, Bool, cond, ◌&&◌, List, length, Ok, Err, Result, ◌==◌, nat_le}
+use Rattle.std.specs.Prelude.{ℕ, ◌*◌, Bool, if◌then◌else◌, ◌&&◌, List, length, Ok, Err, Result, ◌==◌, nat_le}
 use Rattle.bottoms.specs.Formats.{Format}
 use Rattle.bottoms.specs.Images.{span}
 use Rattle.bottoms.specs.declared.fault.OpenFault.{OpenFault}
@@ -21,11 +21,11 @@ fits places len n = nat_le 1 n && (nat_le n 1024 && len == span places * n)
 
 -- what the test of the size answers
 abbrev pub size_answer : ℕ → ℕ → ℕ → Result Unit OpenFault
-size_answer places len n = cond (fits places len n) (Ok tt) (Err WrongMemory)
+size_answer places len n = if fits places len n then Ok tt else Err WrongMemory
 
 -- memory m, opened as n blocks
 abbrev pub opening : Format → List ℕ → ℕ → Opening
-opening F m n = cond (fits F.places (length m) n) (opened m) (rejected 2 m)
+opening F m n = if fits F.places (length m) n then opened m else rejected 2 m
 
 -- what a result of the code says, by the bytes of the card that was opened
 abbrev pub opening_of : {A : Type 0} → (A → List ℕ) → Result A Refused → Opening

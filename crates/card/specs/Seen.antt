@@ -1,5 +1,5 @@
 -- What a person is shown of a block, and texts in sectors.
-use Rattle.std.specs.Prelude.{ℕ, cond, List, [], ◌∷◌, ◌++◌, length, take, ◌==◌, nat_lt}
+use Rattle.std.specs.Prelude.{ℕ, if◌then◌else◌, List, [], ◌∷◌, ◌++◌, length, take, ◌==◌, nat_lt}
 use Rattle.device.specs.Blocks.{Shown, lost, sector, shown_at, blank}
 use Rattle.device.specs.declared.fault.DeviceFault.TheVariants.{NoBlock, Lost}
 use Rattle.card.specs.declared.seen.Seen.{Seen}
@@ -11,12 +11,12 @@ seen_block n lost = Refused (Lost n)
 seen_block n (sector s) = Sector s
 
 abbrev pub seen_at : List Shown → ℕ → Seen
-seen_at d n = cond (nat_lt n (length d)) (seen_block n (shown_at d n)) (Refused (NoBlock n))
+seen_at d n = if nat_lt n (length d) then seen_block n (shown_at d n) else Refused (NoBlock n)
 
 -- the bytes before the first zero
 abbrev pub text_of : List ℕ → List ℕ
 text_of [] = []
-text_of (b ∷ bs) = cond (b == 0) [] (b ∷ text_of bs)
+text_of (b ∷ bs) = if b == 0 then [] else b ∷ text_of bs
 
 -- a text with zeros after it, cut at 64 bytes
 abbrev pub padded : List ℕ → List ℕ

@@ -56,26 +56,23 @@ forgot_all_but s n d h l shows none os d' h' run x m b =
     (λ r. ⊎_elim (λ (i : x ∈ h n). absurd (none x i)) inr r)
     (held_from os n (shown_at d n) (h n) x b (run.holds n l x m))
 
--- A wipe and then a write of block n: both run, and the block holds nothing and has forgotten all but what was written.
-module _ (n : ℕ) (x : List ℕ) (d d₁ d₂ : List Shown) (h h₁ h₂ : Held) (wiped : Ran (wipe n ∷ []) d h d₁ h₁) (written : Ran (write n x ∷ []) d₁ h₁ d₂ h₂) where
+-- A wipe and then a write of block n: the block holds nothing and has forgotten all but what was written.
+module _ (n : ℕ) (x : List ℕ) (d d₁ d₂ : List Shown) (h h₁ h₂ : Held) (wiped : Ran (wipe n ∷ []) d h d₁ h₁) (written : Ran (write n x ∷ []) d₁ h₁ d₂ h₂) (inside : n < length d) where
   run : Ran (wipe n ∷ write n x ∷ []) d h d₂ h₂
   run = ran-++ (wipe n ∷ []) (write n x ∷ []) d d₁ d₂ h h₁ h₂ wiped written
 
-  nothing : n < length d → (s : List ℕ) → s ∈ h₂ n → ⊥
-  nothing l s m = Memᴰ.not-nil (subst (λ (z : List (List ℕ)). s ∈ z) none (run.holds n l s m)) where
+  pub replaced_holds_nothing : (s : List ℕ) → s ∈ h₂ n → ⊥
+  replaced_holds_nothing s m = Memᴰ.not-nil (subst (λ (z : List (List ℕ)). s ∈ z) none (run.holds n inside s m)) where
     none : may_hold_all (wipe n ∷ write n x ∷ []) n (shown_at d n) (h n) ≡ []
     none = simp (eq-eqb n n refl)
 
-  forgot : n < length d → ForgotAllBut x n d₂ h₂
-  forgot l = forgot_all_but x n d₂ h₂ here shows (nothing l) where
+  pub replaced_forgot : ForgotAllBut x n d₂ h₂
+  replaced_forgot = forgot_all_but x n d₂ h₂ here shows replaced_holds_nothing where
     here : n < length d₂
     here = omega (arith, ap length run.shows, count_after_all (wipe n ∷ write n x ∷ []) d)
 
     shows : shown_at d₂ n ≡ sector x
-    shows = ap (λ (y : List Shown). shown_at y n) run.shows ∙ shown_after_all (wipe n ∷ write n x ∷ []) d n l ∙ cond-true (eqb n n) (sector x) _ (eq-eqb n n refl)
-
-  pub replaced : Ran (wipe n ∷ write n x ∷ []) d h d₂ h₂ × (n < length d → (s : List ℕ) → s ∈ h₂ n → ⊥) × (n < length d → ForgotAllBut x n d₂ h₂)
-  replaced = (run, nothing, forgot)
+    shows = ap (λ (y : List Shown). shown_at y n) run.shows ∙ shown_after_all (wipe n ∷ write n x ∷ []) d n inside ∙ cond-true (eqb n n) (sector x) _ (eq-eqb n n refl)
 
 -- A wiped block shows zeros and holds nothing.
 pub wiped : (n : ℕ) (d d' : List Shown) (h h' : Held) → Ran (wipe n ∷ []) d h d' h' → n < length d → (x : List ℕ) → is_blank x ≡ false → (shown_at d' n ≡ sector x) ⊎ (x ∈ h' n) → ⊥

@@ -1,5 +1,5 @@
 -- What a device answers: each refusal by its ground number and the block that it names.
-use Rattle.std.specs.Prelude.{ℕ, cond, List, length, Ok, Err, Result, nat_lt}
+use Rattle.std.specs.Prelude.{ℕ, if◌then◌else◌, List, length, Ok, Err, Result, nat_lt}
 use Rattle.device.specs.Blocks.{Shown, lost, sector, shown_at}
 use Rattle.device.specs.declared.fault.DeviceFault.{DeviceFault}
 use Rattle.device.specs.declared.fault.DeviceFault.TheVariants.{NoBlock, Lost}
@@ -26,7 +26,7 @@ answer_of (Err f) = refused (ground_of f) (block_of f)
 
 -- a call that names block n of a device that shows d: the given answer, unless there is no such block
 abbrev pub of_block : {A : Type 0} → List Shown → ℕ → Answer A → Answer A
-of_block d n a = cond (nat_lt n (length d)) a (refused 1 n)
+of_block d n a = if nat_lt n (length d) then a else refused 1 n
 
 -- write, wipe and mark
 abbrev pub change_answer : List Shown → ℕ → Answer Unit

@@ -1,5 +1,5 @@
 -- What a block device means: what it shows and what it holds for each of its blocks.
-use Rattle.std.specs.Prelude.{ℕ, Bool, true, cond, ◌&&◌, List, [], ◌∷◌, length, replicate, ◌==◌, nat_lt, slice_index_or}
+use Rattle.std.specs.Prelude.{ℕ, Bool, true, if◌then◌else◌, ◌&&◌, List, [], ◌∷◌, length, replicate, ◌==◌, nat_lt, slice_index_or}
 use mathlib.Core.List.{Memᴰ}
 
 -- A block shows a sector, by its 64 bytes, or it is lost.
@@ -13,7 +13,7 @@ shown_at d n = slice_index_or d n lost
 
 -- x where a device that shows d has a block n, else y
 abbrev pub if_block : {A : Type 0} → List Shown → ℕ → A → A → A
-if_block d n x y = cond (nat_lt n (length d)) x y
+if_block d n x y = if nat_lt n (length d) then x else y
 
 -- The sectors that a device holds for each block: those that aren't blank and that it keeps beside the one shown. Only membership counts.
 abbrev pub Held : Type 0

@@ -1,5 +1,5 @@
 -- The operations on blocks as data: what a device shows after them, and the most that it may hold.
-use Rattle.std.specs.Prelude.{◌≡◌, ℕ, ◌<◌, cond, List, [], ◌∷◌, length, ◌==◌, slice_set}
+use Rattle.std.specs.Prelude.{◌≡◌, ℕ, ◌<◌, if◌then◌else◌, List, [], ◌∷◌, length, ◌==◌, slice_set}
 use Rattle.device.specs.Blocks.{Shown, lost, sector, shown_at, Held, ◌∈◌, blank, is_blank}
 
 -- A write of a sector to a block, a wipe of a block, or its loss, which mark brings about.
@@ -26,12 +26,12 @@ after o d = slice_set d (target o) (result o)
 
 -- the same for block n alone, which showed c
 abbrev pub block_after : Op → ℕ → Shown → Shown
-block_after o n c = cond (n == target o) (result o) c
+block_after o n c = if n == target o then result o else c
 
 -- what a block may hold once it shows something else: the sector shown before joins, unless it is blank
 abbrev pub joined : Shown → List (List ℕ) → List (List ℕ)
 joined lost kept = kept
-joined (sector s) kept = cond (is_blank s) kept (s ∷ kept)
+joined (sector s) kept = if is_blank s then kept else s ∷ kept
 
 -- what the changed block may hold, if it showed c and held these sectors
 abbrev pub left_by : Op → Shown → List (List ℕ) → List (List ℕ)
@@ -41,7 +41,7 @@ left_by (lose n) c kept = joined c kept
 
 -- The most that block n may hold after an operation.
 abbrev pub may_hold : Op → ℕ → Shown → List (List ℕ) → List (List ℕ)
-may_hold o n c kept = cond (n == target o) (left_by o c kept) kept
+may_hold o n c kept = if n == target o then left_by o c kept else kept
 
 -- operations one after the other
 abbrev pub after_all : List Op → List Shown → List Shown

@@ -1,5 +1,5 @@
 -- What a mirror of two devices shows and holds, and what repair does.
-use Rattle.std.specs.Prelude.{◌≡◌, ℕ, ◌+◌, ◌<◌, Bool, false, cond, ◌&&◌, List, [], ◌∷◌, ◌++◌, length}
+use Rattle.std.specs.Prelude.{◌≡◌, ℕ, ◌+◌, ◌<◌, Bool, false, if◌then◌else◌, ◌&&◌, List, [], ◌∷◌, ◌++◌, length}
 use Rattle.std.specs.Str.{bytes_eq}
 use Rattle.device.specs.Blocks.{Shown, lost, sector, shown_at, if_block, Held, is_blank}
 use Rattle.device.specs.Answers.{Answer, accepted, refused, of_block}
@@ -23,7 +23,7 @@ mirror_shown (a ∷ as') (b ∷ bs) = pick a b ∷ mirror_shown as' bs
 abbrev pub hidden : Shown → Shown → List (List ℕ)
 hidden lost b = []
 hidden (sector s) lost = []
-hidden (sector s) (sector t) = cond (bytes_eq s t) [] (joined (sector t) [])
+hidden (sector s) (sector t) = if bytes_eq s t then [] else joined (sector t) []
 
 -- It holds what both sides hold, and what the second side hides.
 abbrev pub held_both : Shown → Shown → List (List ℕ) → List (List ℕ) → List (List ℕ)
@@ -62,7 +62,7 @@ shows_sector s (sector t) = bytes_eq s t
 
 -- what it takes to have block n show sector s, if it shows c
 abbrev pub mending : ℕ → List ℕ → Shown → List Op
-mending n s c = cond (shows_sector s c) [] (write n s ∷ [])
+mending n s c = if shows_sector s c then [] else write n s ∷ []
 
 -- What repair of block n writes to a side where it shows c, if the mirror shows x for it.
 abbrev pub repairing : ℕ → Shown → Shown → List Op

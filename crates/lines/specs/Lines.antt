@@ -1,5 +1,5 @@
 -- The lines of a cache, how they are found, and the writes that wait in them.
-use Rattle.std.specs.Prelude.{◌≡◌, ℕ, suc, Bool, true, false, cond, List, [], ◌∷◌, ◌++◌, Some, None, Option, ◌==◌, slice_index_or}
+use Rattle.std.specs.Prelude.{◌≡◌, ℕ, suc, Bool, true, false, if◌then◌else◌, List, [], ◌∷◌, ◌++◌, Some, None, Option, ◌==◌, slice_index_or}
 use Rattle.std.specs.Option.{option_map}
 use Rattle.device.specs.Blocks.{blank}
 use Rattle.device.specs.Operations.{Op, write}
@@ -46,7 +46,7 @@ OnlyIn ls i o = (k : ℕ) → clash (block_at ls k) o ≡ true → k ≡ i
 -- the first line for this block, or the first empty one for None
 abbrev pub position : List Line → Option ℕ → Option ℕ
 position [] o = None
-position (l ∷ ls) o = cond (same_block l.block o) (Some 0) (option_map suc (position ls o))
+position (l ∷ ls) o = if same_block l.block o then Some 0 else option_map suc (position ls o)
 
 -- the sector that waits for block n, if a line stands for it
 abbrev pub waiting_for : List Line → ℕ → Option (List ℕ)
