@@ -1,5 +1,5 @@
 -- Calls that name a block: what they answer below the count, and past it.
-use Rattle.std.proofs.Common.{◌≡◌, ℕ, ◌<◌, ◌≤◌, true, false, cond, ltb, List, length, refl, ap, ◌∙◌, inl, inr, ⊎_elim, arith}
+use Rattle.std.proofs.Common.{◌≡◌, ℕ, ◌<◌, ◌≤◌, true, false, cond, ltb, List, length, sym, refl, ap, ◌∙◌, inl, inr, ⊎_elim, arith}
 use Rattle.std.proofs.lemmas.List.{get_or_past}
 use Rattle.std.proofs.lemmas.Bool.{cases_lt, cond-true, cond-false, lt-ltb, le-ltb}
 use Rattle.device.specs.Blocks.{Shown, lost, sector, shown_at, if_block}
@@ -39,6 +39,13 @@ buffer_within d n b buffer e = ap (λ (x : Shown). filled x buffer) e
 
 pub buffer_past : (d : List Shown) (n : ℕ) (buffer : List ℕ) → length d ≤ n → read_buffer d n buffer ≡ buffer
 buffer_past d n buffer h = buffer_within d n lost buffer (get_or_past d n lost h)
+
+-- two devices that both have a block n are read alike where they show the same for it
+pub read_same : (d d' : List Shown) (n : ℕ) → n < length d → n < length d' → shown_at d n ≡ shown_at d' n → read_answer d n ≡ read_answer d' n
+read_same d d' n h h' e = read_within d n (shown_at d' n) h e ∙ sym (read_within d' n (shown_at d' n) h' refl)
+
+pub buffer_same : (d d' : List Shown) (n : ℕ) (buffer : List ℕ) → shown_at d n ≡ shown_at d' n → read_buffer d n buffer ≡ read_buffer d' n buffer
+buffer_same d d' n buffer e = buffer_within d n (shown_at d' n) buffer e
 
 -- what the answer of a read tells: the block shows what is in the buffer, or it is lost or there is none
 accepted_block : (n : ℕ) (c : Shown) (buffer : List ℕ) → accepted tt ≡ read_block n c → c ≡ sector (filled c buffer)

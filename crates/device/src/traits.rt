@@ -1,6 +1,5 @@
 // The trait of block devices, by what a device shows and holds.
-ghost use Rattle.std.specs.Prelude.{◌≡◌, ◌<◌, ◌≤◌, Bool, true, List, [], ◌∷◌, length, MatchResult};
-ghost use Rattle.device.specs.declared.fault.DeviceFault.TheVariants.{NoBlock};
+ghost use Rattle.std.specs.Prelude.{◌≡◌, ◌≤◌, Bool, true, List, [], ◌∷◌, length};
 ghost use Rattle.device.specs.Blocks.{Shown, Held};
 ghost use Rattle.device.specs.Answers.{answer_of, change_answer, read_answer, read_buffer};
 ghost use Rattle.device.specs.Operations.{write, wipe, lose, Ran};
@@ -23,17 +22,6 @@ pub trait Device {
     fn count(&self) -> u32
         ensures count { result ≡ length (shown self.now) }
         ensures most { result ≤ 1024 };
-
-    // Refuses a block number that is not below the count.
-    final fn check_block(&self, n: u32) -> Result<(), DeviceFault>
-        ensures { MatchResult result (λ _. n < length (shown self.now)) (λ f. (length (shown self.now) ≤ n) × (f ≡ NoBlock n)) }
-    {
-        if n < self.count() {
-            Ok(())
-        } else {
-            Err(DeviceFault::NoBlock(n))
-        }
-    }
 
     // Fills the buffer with the sector that block n shows.
     fn read(&mut self, n: u32, buf: &mut Sector) -> Result<(), DeviceFault>

@@ -16,9 +16,6 @@ mirror_count [] b = sym (zero-min (length b))
 mirror_count (x ∷ a) [] = sym (min-zero (length (x ∷ a)))
 mirror_count (x ∷ a) (y ∷ b) = ap suc (mirror_count a b) ∙ sym (suc-min-suc (length a) (length b))
 
-pub is_count : (a b : List Shown) (r : ℕ) → r ≡ min (length a) (length b) → r ≡ length (mirror_shown a b)
-is_count a b r e = e ∙ sym (mirror_count a b)
-
 pub mirror_at : (a b : List Shown) (n : ℕ) → n < length (mirror_shown a b) → shown_at (mirror_shown a b) n ≡ pick (shown_at a n) (shown_at b n)
 mirror_at [] b n h = absurd (omega arith)
 mirror_at (x ∷ a) [] n h = absurd (omega arith)

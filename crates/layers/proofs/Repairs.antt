@@ -1,15 +1,14 @@
 -- A block of a mirror repaired: both sides show what the mirror shows, and nothing more is held.
-use Rattle.std.proofs.Common.{◌≡◌, ℕ, ◌+◌, ◌<◌, Bool, true, false, ◌⊎◌, List, [], ◌∷◌, length, Decides, sym, refl, ap, ◌∙◌, subst, ap₂, inl, inr, arith}
+use Rattle.std.proofs.Common.{◌≡◌, ℕ, ◌<◌, true, false, ◌⊎◌, List, [], ◌∷◌, length, sym, refl, ap, ◌∙◌, subst, inl, inr, arith}
 use Rattle.std.proofs.lemmas.Slice.Eq.{bytes_eq-Decides}
 use Rattle.std.proofs.lemmas.Bool.{both_ways, cases_Bool, cases_eq, cond-true, cond-false}
-use Rattle.std.specs.Str.{bytes_eq}
 use Rattle.device.specs.Blocks.{Shown, lost, sector, shown_at, Held, ◌∈◌, is_blank}
-use Rattle.device.specs.Answers.{Answer, accepted, refused, of_block, read_block, read_answer, read_buffer}
+use Rattle.device.specs.Answers.{accepted, read_block, read_answer, read_buffer}
 use Rattle.device.specs.Operations.{Op, write, Ran}
-use Rattle.device.proofs.Answers.{answer_within, accepted_within, read_accepted, read_refused, same_refusal}
+use Rattle.device.proofs.Answers.{accepted_within, read_accepted}
 use Rattle.device.proofs.Operations.{Among, from_joined, BlockRan, block_ran, block_untouched, block_changed, count_after_all, ran-++}
-use Rattle.layers.specs.Mirroring.{pick, mirror_shown, held_both, mirror_held, shows_sector, mending, repairing, repair_block, repair_answer}
-use Rattle.layers.proofs.MirrorRuns.{mirror_at, within_both, mirror_ran, both_ran, both_sides, seen, in_first, in_second, in_hidden, parts_same}
+use Rattle.layers.specs.Mirroring.{pick, mirror_shown, held_both, mirror_held, shows_sector, mending, repairing}
+use Rattle.layers.proofs.MirrorRuns.{mirror_at, within_both, mirror_ran, both_ran, seen, in_first, in_second, in_hidden, parts_same}
 
 -- a side is written, or it shows the sector already
 shows_is : (s : List ℕ) (c : Shown) → shows_sector s c ≡ true → c ≡ sector s
@@ -19,19 +18,6 @@ shows_is s (sector t) h = ap sector (sym ((bytes_eq-Decides s t).0 h))
 is_shown : (s : List ℕ) (c : Shown) → c ≡ sector s → shows_sector s c ≡ true
 is_shown s c e = subst (λ (x : Shown). shows_sector s x ≡ true) (sym e) ((bytes_eq-Decides s s).1 refl)
 
--- a sector that was read, compared with s
-same_test : (r t : Bool) (P : Type 0) → Decides r P → Decides t P → r ≡ t
-same_test true t P h k = sym (k.1 (h.0 refl))
-same_test false true P h k = h.1 (k.0 refl)
-same_test false false P h k = refl
-
-pub compared : (d : List Shown) (n : ℕ) (s buffer buffer' : List ℕ) (r : Bool) → accepted tt ≡ read_answer d n → buffer' ≡ read_buffer d n buffer → Decides r (s ≡ buffer') → r ≡ shows_sector s (shown_at d n)
-compared d n s buffer buffer' r answer rest test =
-    same_test r (bytes_eq s buffer') (s ≡ buffer') test (bytes_eq-Decides s buffer') ∙ ap (shows_sector s) (ap sector rest ∙ sym (read_accepted d n buffer answer))
-
-pub unread : (d : List Shown) (n : ℕ) (s : List ℕ) (ground block : ℕ) → refused ground block ≡ read_answer d n → false ≡ shows_sector s (shown_at d n)
-unread d n s ground block e = ap (shows_sector s) (sym (read_refused d n ground block e))
-
 mending_cases : (n : ℕ) (s : List ℕ) (c : Shown) → ((mending n s c ≡ []) × (c ≡ sector s)) ⊎ ((mending n s c ≡ write n s ∷ []) × (c ≡ sector s → ⊥))
 mending_cases n s c =
     elim (cases_Bool (shows_sector s c)) [
@@ -40,12 +26,10 @@ mending_cases n s c =
     ]
 
 -- the sector isn't shown, and it is written
-pub mend_written : (n : ℕ) (s : List ℕ) (d d₁ d₂ : List Shown) (h h₁ h₂ : Held) → false ≡ shows_sector s (shown_at d n) → Ran [] d h d₁ h₁ → Ran (write n s ∷ []) d₁ h₁ d₂ h₂
-    → (1 ≡ length (mending n s (shown_at d n))) × Ran (mending n s (shown_at d n)) d h d₂ h₂
-mend_written n s d d₁ d₂ h h₁ h₂ other read run =
-    (ap length todo, subst (λ (os : List Op). Ran os d h d₂ h₂) todo (ran-++ [] (write n s ∷ []) d d₁ d₂ h h₁ h₂ read run)) where
-      todo : write n s ∷ [] ≡ mending n s (shown_at d n)
-      todo = sym (cond-false (shows_sector s (shown_at d n)) [] (write n s ∷ []) (sym other))
+pub mend_written : (n : ℕ) (s : List ℕ) (d d₁ d₂ : List Shown) (h h₁ h₂ : Held) → false ≡ shows_sector s (shown_at d n) → Ran [] d h d₁ h₁ → Ran (write n s ∷ []) d₁ h₁ d₂ h₂ → Ran (mending n s (shown_at d n)) d h d₂ h₂
+mend_written n s d d₁ d₂ h h₁ h₂ other read run = subst (λ (os : List Op). Ran os d h d₂ h₂) todo (ran-++ [] (write n s ∷ []) d d₁ d₂ h h₁ h₂ read run) where
+  todo : write n s ∷ [] ≡ mending n s (shown_at d n)
+  todo = sym (cond-false (shows_sector s (shown_at d n)) [] (write n s ∷ []) (sym other))
 
 -- the block then shows the sector, and what it gains is another that it showed before
 module _ (n : ℕ) (s : List ℕ) (c c' : Shown) (kept kept' : List (List ℕ)) where
@@ -95,8 +79,8 @@ both_mended n s a b a' b' ka kb ka' kb' shown first second = record { shows = ap
         ]
       ]
 
--- Both sides are mended at block n: the mirror shows what it showed, and holds no more.
-pub repaired : (n : ℕ) (s : List ℕ) (a b a' b' : List Shown) (ha hb ha' hb' : Held) → n < length (mirror_shown a b) → shown_at (mirror_shown a b) n ≡ sector s
+-- both sides are mended at block n: the mirror shows what it showed, and holds no more.
+repaired : (n : ℕ) (s : List ℕ) (a b a' b' : List Shown) (ha hb ha' hb' : Held) → n < length (mirror_shown a b) → shown_at (mirror_shown a b) n ≡ sector s
     → Ran (mending n s (shown_at a n)) a ha a' ha' → Ran (mending n s (shown_at b n)) b hb b' hb'
     → Ran [] (mirror_shown a b) (mirror_held a b ha hb) (mirror_shown a' b') (mirror_held a' b' ha' hb')
 repaired n s a b a' b' ha hb ha' hb' inside shown first second =
@@ -121,59 +105,20 @@ repaired n s a b a' b' ha hb ha' hb' inside shown first second =
                 (untouched n s (shown_at a m) (shown_at a' m) (ha m) (ha' m) m (shown_at a n) ne run_a) (untouched n s (shown_at b m) (shown_at b' m) (hb m) (hb' m) m (shown_at b n) ne run_b)
           ]
 
--- a side is read, then mended
-after_read : (n : ℕ) (s : List ℕ) (d d₁ d₂ : List Shown) (h h₁ h₂ : Held) → Ran [] d h d₁ h₁ → Ran (mending n s (shown_at d₁ n)) d₁ h₁ d₂ h₂ → Ran (mending n s (shown_at d n)) d h d₂ h₂
-after_read n s d d₁ d₂ h h₁ h₂ read run =
-    subst (λ (x : List Shown). Ran (mending n s (shown_at x n)) d h d₂ h₂) read.shows (ran-++ [] (mending n s (shown_at d₁ n)) d d₁ d₂ h h₁ h₂ read run)
+-- The mirror was read, and shows s for block n; then each side is mended.
+module _ (n : ℕ) (s buffer : List ℕ) (a b : List Shown) (answered : accepted tt ≡ read_answer (mirror_shown a b) n) (filled : s ≡ read_buffer (mirror_shown a b) n buffer) where
+  shown : shown_at (mirror_shown a b) n ≡ sector s
+  shown = read_accepted (mirror_shown a b) n buffer answered ∙ ap sector (sym filled)
 
--- A repair: what it answers, and what it does to the mirror and to each side.
-pub record Repaired (given : Answer ℕ) (n : ℕ) (a b : List Shown) (ha hb : Held) (a' b' : List Shown) (ha' hb' : Held) : Type 0 where
-  pub answer : given ≡ repair_answer a b n
-  pub effect : Ran [] (mirror_shown a b) (mirror_held a b ha hb) (mirror_shown a' b') (mirror_held a' b' ha' hb')
-  pub first : Ran (repairing n (shown_at (mirror_shown a b) n) (shown_at a n)) a ha a' ha'
-  pub second : Ran (repairing n (shown_at (mirror_shown a b) n) (shown_at b n)) b hb b' hb'
+  -- one side, which is d, d₁ after the read and d₂ in the end
+  module _ (d d₁ d₂ : List Shown) (h h₁ h₂ : Held) (read : Ran [] d h d₁ h₁) (run : Ran (mending n s (shown_at d₁ n)) d₁ h₁ d₂ h₂) where
+    pub side_mended : Ran (mending n s (shown_at d n)) d h d₂ h₂
+    side_mended = subst (λ (x : List Shown). Ran (mending n s (shown_at x n)) d h d₂ h₂) read.shows (ran-++ [] (mending n s (shown_at d₁ n)) d d₁ d₂ h h₁ h₂ read run)
 
-module _ (n : ℕ) (a b : List Shown) (ha hb : Held) (a₁ b₁ : List Shown) (ha₁ hb₁ : Held) (read_a : Ran [] a ha a₁ ha₁) (read_b : Ran [] b hb b₁ hb₁) where
-  -- the block could not be read: nothing is written
-  pub repair_refused : (ground block : ℕ) → refused ground block ≡ read_answer (mirror_shown a b) n → Repaired (refused ground block) n a b ha hb a₁ b₁ ha₁ hb₁
-  repair_refused ground block e =
-      record {
-        answer = subst (λ (c : Shown). refused ground block ≡ of_block d n (repair_block n c (shown_at a n) (shown_at b n))) (sym gone) (same_refusal d n 9 ground block (e ∙ ap (λ (c : Shown). of_block d n (read_block n c)) gone));
-        effect = both_sides [] a b a₁ b₁ ha hb ha₁ hb₁ read_a read_b;
-        first = subst (λ (c : Shown). Ran (repairing n c (shown_at a n)) a ha a₁ ha₁) (sym gone) read_a;
-        second = subst (λ (c : Shown). Ran (repairing n c (shown_at b n)) b hb b₁ hb₁) (sym gone) read_b;
-      } where
-        d : List Shown
-        d = mirror_shown a b
+    pub side_repaired : Ran (repairing n (shown_at (mirror_shown a b) n) (shown_at d n)) d h d₂ h₂
+    side_repaired = subst (λ (c : Shown). Ran (repairing n c (shown_at d n)) d h d₂ h₂) (sym shown) side_mended
 
-        gone : shown_at d n ≡ lost
-        gone = read_refused d n ground block e
-
-  -- it shows s, and both sides are mended
-  pub repair_accepted : (s : List ℕ) (writes : ℕ) (buffer : List ℕ) (a₂ b₂ : List Shown) (ha₂ hb₂ : Held) → accepted tt ≡ read_answer (mirror_shown a b) n → s ≡ read_buffer (mirror_shown a b) n buffer
-      → writes ≡ length (mending n s (shown_at a₁ n)) + length (mending n s (shown_at b₁ n)) → Ran (mending n s (shown_at a₁ n)) a₁ ha₁ a₂ ha₂ → Ran (mending n s (shown_at b₁ n)) b₁ hb₁ b₂ hb₂
-      → Repaired (accepted writes) n a b ha hb a₂ b₂ ha₂ hb₂
-  repair_accepted s writes buffer a₂ b₂ ha₂ hb₂ e read count run_a run_b =
-      record {
-        answer =
-            ap accepted (count ∙ ap₂ (λ (x y : List Shown). length (mending n s (shown_at x n)) + length (mending n s (shown_at y n))) read_a.shows read_b.shows)
-            ∙ ap (λ (c : Shown). repair_block n c (shown_at a n) (shown_at b n)) (sym shown)
-            ∙ sym (answer_within d n (repair_block n (shown_at d n) (shown_at a n) (shown_at b n)) inside);
-        effect = repaired n s a b a₂ b₂ ha hb ha₂ hb₂ inside shown first second;
-        first = subst (λ (c : Shown). Ran (repairing n c (shown_at a n)) a ha a₂ ha₂) (sym shown) first;
-        second = subst (λ (c : Shown). Ran (repairing n c (shown_at b n)) b hb b₂ hb₂) (sym shown) second;
-      } where
-        d : List Shown
-        d = mirror_shown a b
-
-        shown : shown_at d n ≡ sector s
-        shown = read_accepted d n buffer e ∙ ap sector (sym read)
-
-        inside : n < length d
-        inside = accepted_within d n (read_block n (shown_at d n)) tt e
-
-        first : Ran (mending n s (shown_at a n)) a ha a₂ ha₂
-        first = after_read n s a a₁ a₂ ha ha₁ ha₂ read_a run_a
-
-        second : Ran (mending n s (shown_at b n)) b hb b₂ hb₂
-        second = after_read n s b b₁ b₂ hb hb₁ hb₂ read_b run_b
+  pub both_repaired : (a' b' : List Shown) (ha hb ha' hb' : Held) → Ran (mending n s (shown_at a n)) a ha a' ha' → Ran (mending n s (shown_at b n)) b hb b' hb'
+      → Ran [] (mirror_shown a b) (mirror_held a b ha hb) (mirror_shown a' b') (mirror_held a' b' ha' hb')
+  both_repaired a' b' ha hb ha' hb' first second =
+      repaired n s a b a' b' ha hb ha' hb' (accepted_within (mirror_shown a b) n (read_block n (shown_at (mirror_shown a b) n)) tt answered) shown first second

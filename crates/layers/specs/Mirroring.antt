@@ -50,11 +50,6 @@ pub record MirrorNamed {A B : Type 0} (g : Ghosts A) (k : Ghosts B) (m : Mirror 
 abbrev pub passed : List Shown → Op → List Op
 passed d o = if_block d (target o) (o ∷ []) []
 
--- x where a call is accepted, else y
-abbrev pub if_accepted : {A : Type 0} → Answer Unit → A → A → A
-if_accepted (accepted u) x y = x
-if_accepted (refused number block) x y = y
-
 -- does a block show sector s
 abbrev pub shows_sector : List ℕ → Shown → Bool
 shows_sector s lost = false

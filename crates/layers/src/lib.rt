@@ -2,10 +2,7 @@
 #![tactic(auto)]
 
 mod cache;
-mod caching;
-mod check;
 mod mirror;
-mod mirroring;
 mod piles;
 mod repairing;
 

@@ -14,10 +14,7 @@ fn shows<D: Device>(device: &mut D, n: u32, s: &Sector) -> bool
     ensures effect { Effect D.Device [] device.old device.new }
 {
     let mut shown = blank_sector();
-    match device.read(n, &mut shown) {
-        Ok(()) => *s == shown,
-        Err(_) => false,
-    }
+    device.read(n, &mut shown).is_ok() && *s == shown
 }
 
 // Has block n of a device show the sector: writes it unless it is shown already. How many writes that took.
@@ -34,17 +31,6 @@ fn mend<D: Device>(device: &mut D, n: u32, s: &Sector) -> u32
 }
 
 impl<A: Device, B: Device> Mirror<A, B> {
-    // Has block n show the sector on both sides; how many were written.
-    fn mend_sides(&mut self, n: u32, s: &Sector) -> u32
-        ensures writes { result ≡ length (mending n s.now (shown_at (A.Device.shown self.old.a) n)) + length (mending n s.now (shown_at (B.Device.shown self.old.b) n)) }
-        ensures first { Effect A.Device (mending n s.now (shown_at (A.Device.shown self.old.a) n)) self.old.a self.new.a }
-        ensures second { Effect B.Device (mending n s.now (shown_at (B.Device.shown self.old.b) n)) self.old.b self.new.b }
-    {
-        let first = mend(&mut self.a, n, s);
-        let second = mend(&mut self.b, n, s);
-        first + second
-    }
-
     // Writes the sector that block n shows to a side that is lost or shows another; how many were written. Nothing more is held then.
     pub fn repair(&mut self, n: u32) -> Result<u32, DeviceFault>
         ensures answer { answer_of result ≡ repair_answer (A.Device.shown self.old.a) (B.Device.shown self.old.b) n }
@@ -54,6 +40,6 @@ impl<A: Device, B: Device> Mirror<A, B> {
     {
         let mut shown = blank_sector();
         self.read(n, &mut shown)?;
-        Ok(self.mend_sides(n, &shown))
+        Ok(mend(&mut self.a, n, &shown) + mend(&mut self.b, n, &shown))
     }
 }

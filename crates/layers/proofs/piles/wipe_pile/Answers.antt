@@ -1,9 +1,10 @@
 -- What the pile wipes is wiped on both sides.
-use Rattle.layers.proofs.Naming.{wiped_both}
+use Rattle.std.proofs.Common.{rules}
+use Rattle.layers.proofs.Naming.{wiped_first, wiped_second}
 use Rattle.layers.proofs.piles.wipe_pile.Goals as goal
 
-pub returns : goal.returns
-returns g c =
-    let done = c.wipe.ensures in
-    let gone = wiped_both g.A.Device g.B.Device c.args.n c.args.pile.now c.wipe.new.self done.effect in
-    record { answer = done.answer; effect = done.effect; lines = done.lines; turn = done.turn; below = done.below; first = λ l. (gone l).0; second = λ l. (gone l).1 }
+pub returns-clause-first : goal.returns-clause-first
+returns-clause-first g c = search (rules, wiped_first)
+
+pub returns-clause-second : goal.returns-clause-second
+returns-clause-second g c = search (rules, wiped_second)

@@ -2,10 +2,10 @@
 ghost use Rattle.std.specs.Prelude.{◌≡◌, ◌<◌, ◌≤◌, MatchResult};
 ghost use Rattle.device.specs.declared.fault.DeviceFault.TheVariants.{NoBlock};
 
-use device::DeviceFault;
+use crate::fault::DeviceFault;
 
 // Refuses a block number that is not below the count.
-pub(crate) fn check_block(count: u32, n: u32) -> Result<(), DeviceFault>
+pub fn check_block(count: u32, n: u32) -> Result<(), DeviceFault>
     ensures { MatchResult result (λ _. n < count) (λ f. (count ≤ n) × (f ≡ NoBlock n)) }
 {
     if n < count {
