@@ -1,9 +1,12 @@
 // The calls of a pile, compared with the calls that should reach each of its cards: both leave the same bytes.
-use bottoms::{Card, InPlace, Placement, Plain, Rotating, Rotation};
-use device::{Device, DeviceFault};
+use crate::opening::open;
+use bottoms::{InPlace, OpenFault, Placement, Rotation};
+use device::{Device, DeviceFault, Sector, blank_sector};
 use layers::{Cache, Mirror};
+use std::test::Fail;
 
-// One call of a device. A sector is written as 64 times one byte.
+// One call of a device. A sector is written as 64 times one byte. The calls are data, since they are made to three types of device and a
+// closure takes one.
 #[derive(Clone, Copy)]
 pub enum Call {
     Read(u32),
@@ -13,67 +16,66 @@ pub enum Call {
     Flush,
 }
 
-// Makes the call, with this buffer for a read.
-fn apply<D: Device>(device: &mut D, call: Call, buffer: &mut [u8; 64]) -> Result<(), DeviceFault> {
-    match call {
-        Call::Read(n) => device.read(n, buffer),
-        Call::Write(n, byte) => device.write(n, &[byte; 64]),
-        Call::Wipe(n) => device.wipe(n),
-        Call::Mark(n) => device.mark(n),
-        Call::Flush => {
-            device.flush();
-            Ok(())
+impl Call {
+    // Makes the call, with this buffer for a read.
+    fn apply<D: Device>(self, device: &mut D, buffer: &mut Sector) -> Result<(), DeviceFault> {
+        match self {
+            Call::Read(n) => device.read(n, buffer),
+            Call::Write(n, byte) => device.write(n, &[byte; 64]),
+            Call::Wipe(n) => device.wipe(n),
+            Call::Mark(n) => device.mark(n),
+            Call::Flush => {
+                device.flush();
+                Ok(())
+            }
         }
     }
 }
 
 // How many of the calls are accepted, the last byte that was read, and the count of blocks.
 fn run<D: Device>(device: &mut D, calls: &[Call]) -> (usize, u8, u32) {
-    let mut accepted: usize = 0;
-    let mut buffer = [0; 64];
-    for call in calls {
-        if apply(device, *call, &mut buffer).is_ok() {
-            accepted = accepted.wrapping_add(1);
-        }
-    }
+    let mut buffer = blank_sector();
+    let accepted = calls
+        .iter()
+        .map(|call| call.apply(device, &mut buffer))
+        .filter(|answer| answer.is_ok())
+        .count();
     (accepted, buffer[63], device.count())
 }
 
-// The same on a new pile over cards of six blocks, and on one card. No count is 0.
-fn on_pile(calls: &[Call], first: &mut [u8], second: &mut [u8]) -> (usize, u8, u32) {
-    let Ok(plain) = Plain::open(first, 6) else {
-        return (0, 0, 0);
-    };
-    let Ok(rotating) = Rotating::open(second, 6) else {
-        return (0, 0, 0);
-    };
+// The same on a new pile over cards of six blocks, and on one card.
+fn on_pile(
+    calls: &[Call],
+    first: &mut [u8],
+    second: &mut [u8],
+) -> Result<(usize, u8, u32), OpenFault> {
+    let plain = open::<InPlace>(first, 6)?;
+    let rotating = open::<Rotation>(second, 6)?;
     let mut pile = Cache::new(Mirror::new(plain, rotating));
-    run(&mut pile, calls)
+    Ok(run(&mut pile, calls))
 }
 
-fn on_card<P: Placement>(calls: &[Call], bytes: &mut [u8]) -> (usize, u8, u32) {
-    match Card::<P>::open(bytes, 6) {
-        Ok(mut card) => run(&mut card, calls),
-        Err(_) => (0, 0, 0),
-    }
+fn on_card<P: Placement>(calls: &[Call], bytes: &mut [u8]) -> Result<(usize, u8, u32), OpenFault> {
+    let mut card = open::<P>(bytes, 6)?;
+    Ok(run(&mut card, calls))
 }
 
 // Whether so many calls of the pile are accepted, the last of them that read gave 64 times this byte, and both cards are left as the calls
 // below leave them alone.
-fn alike(calls: &[Call], accepted: usize, read: u8, below: &[Call]) -> bool {
+fn alike(calls: &[Call], accepted: usize, read: u8, below: &[Call]) -> Result<bool, OpenFault> {
     let mut plain = [0; 390];
     let mut rotating = [0; 1542];
-    let answered = on_pile(calls, &mut plain, &mut rotating) == (accepted, read, 6);
+    let answered = on_pile(calls, &mut plain, &mut rotating)?;
     let mut plain_alone = [0; 390];
-    on_card::<InPlace>(below, &mut plain_alone);
+    on_card::<InPlace>(below, &mut plain_alone)?;
     let mut rotating_alone = [0; 1542];
-    on_card::<Rotation>(below, &mut rotating_alone);
-    answered && plain == plain_alone && rotating == rotating_alone
+    on_card::<Rotation>(below, &mut rotating_alone)?;
+    Ok(answered == (accepted, read, 6) && plain == plain_alone && rotating == rotating_alone)
 }
 
 // Lines 0 to 3 are taken, 0 and 1 make room, 3 is wiped and taken again, 2 is lost. The reads of a lost block and past the count are refused.
 #[test]
-fn pile_and_cards(rt: HostRuntime) {
+fn pile_and_cards(rt: HostRuntime) -> Result<(), Fail> {
     let calls = [
         Call::Write(0, 1),
         Call::Write(1, 2),
@@ -101,6 +103,7 @@ fn pile_and_cards(rt: HostRuntime) {
         Call::Write(0, 8),
         Call::Wipe(5),
     ];
-    assert!(rt; alike(&calls, 13, 5, &below));
-    assert!(rt; alike(&calls[0..13], 11, 5, &below[0..4]));
+    assert!(rt; alike(&calls, 13, 5, &below)?);
+    assert!(rt; alike(&calls[..13], 11, 5, &below[..4])?);
+    Ok(())
 }

@@ -4,6 +4,8 @@
 #[cfg(test)]
 mod images;
 #[cfg(test)]
+mod opening;
+#[cfg(test)]
 mod order;
 #[cfg(test)]
 mod repair;

@@ -1,14 +1,15 @@
 // The order in which a cache writes its lines below.
-use bottoms::{Card, Plain};
+use crate::opening::open;
+use bottoms::InPlace;
 use device::{Device, DeviceFault, Sector};
 use layers::Cache;
+use std::test::Fail;
 
-// A device that notes which blocks are written to it, one after the other, up to eight.
+// A device that notes which blocks are written to it, one after the other, as far as its list has room.
 #[derive(Drop)]
 pub struct Noted<D: Device> {
     below: D,
-    written: [u32; 8],
-    count: usize,
+    written: Vec<u32>,
 }
 
 impl<D: Device> Device for Noted<D> {
@@ -27,10 +28,9 @@ impl<D: Device> Device for Noted<D> {
     }
 
     fn write(&mut self, n: u32, s: &Sector) -> Result<(), DeviceFault> {
-        let i = self.count;
-        if i < 8 {
-            self.written[i] = n;
-            self.count = i + 1;
+        // a write can't fail for memory: a list that is full stays so, and is longer than the one that the test expects
+        if self.written.len() < self.written.capacity() {
+            self.written.push(n).unwrap();
         }
         self.below.write(n, s)
     }
@@ -48,26 +48,19 @@ impl<D: Device> Device for Noted<D> {
     }
 }
 
-// The blocks that are written below a cache: five sectors are put into its four lines, then it is flushed.
-fn written(bytes: &mut [u8]) -> [u32; 8] {
-    let Ok(card) = Plain::open(bytes, 6) else {
-        return [99; 8];
-    };
+// Five sectors are put into the four lines of a cache, then it is flushed. Block 3 makes room for block 5; the flush then goes from line 0 to
+// line 3.
+#[test]
+fn lines_in_order(rt: HostRuntime) -> Result<(), Fail> {
+    let mut bytes = [0; 390];
     let mut cache = Cache::new(Noted {
-        below: card,
-        written: [9; 8],
-        count: 0,
+        below: open::<InPlace>(&mut bytes, 6)?,
+        written: Vec::with_capacity(rt.alloc(), 8)?,
     });
     for n in [3, 1, 2, 0, 5] {
-        let _ = cache.write(n, &[7; 64]);
+        cache.write(n, &[7; 64])?;
     }
     cache.flush();
-    cache.below.written
-}
-
-// Block 3 makes room for block 5; the flush then goes from line 0 to line 3.
-#[test]
-fn lines_in_order(rt: HostRuntime) {
-    let mut bytes = [0; 390];
-    assert!(rt; written(&mut bytes) == [3, 5, 1, 2, 0, 9, 9, 9]);
+    assert_eq!(rt; cache.below.written.as_slice(), [3, 5, 1, 2, 0].as_slice());
+    Ok(())
 }

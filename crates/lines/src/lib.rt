@@ -3,7 +3,6 @@
 
 mod line;
 mod table;
-mod tables;
 
 pub use line::Line;
 pub use table::Table;

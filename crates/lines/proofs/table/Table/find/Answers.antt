@@ -1,16 +1,15 @@
--- The first line for the block was found, or none of the four is for it.
-use Rattle.std.proofs.Common.{◌<◌, length, sym, arith}
-use Rattle.lines.proofs.Lines.{position_read, position_none}
+-- The position found is that of the first line for the block.
+use Rattle.std.proofs.Common.{nat_eq, ◌∙◌, rules}
+use Rattle.std.specs.Option.{option_eq}
+use Rattle.std.proofs.lemmas.Iterator.{YieldsList-from_slice}
+use Rattle.std.proofs.lemmas.Iterator.Search.{position_from_yields_List}
+use Rattle.lines.specs.declared.line.Line.{Line}
+use Rattle.lines.proofs.Lines.{first_is_position}
 use Rattle.lines.proofs.table.Table.find.Goals as goal
+use borrow.Author.Tests.{tests}
 
-pub returns-then-is_for : goal.returns-then-is_for
-returns-then-is_for c =
+pub returns-clause-value : goal.returns-clause-value
+returns-clause-value c =
+    let o = c.args.block in
     let ls = c.args.self.now.lines in
-    let i = c.loop-i.i in
-    let h : i < length ls = omega (arith, c.args.self.now.four) in
-    record { value = position_read ls c.args.block i c.at.result h c.at.ensures c.if-is_for.ensures c.loop-i.invariant; within = omega arith }
-
-pub returns : goal.returns
-returns c =
-    let ls = c.args.self.now.lines in
-    record { value = sym (position_none ls c.args.block (λ k h. c.loop-i.invariant k (omega (arith, c.args.self.now.four)))); within = tt }
+    position_from_yields_List (λ (l : Line). option_eq nat_eq l.block o) _ _ c.position.result c.position.ensures.ran (YieldsList-from_slice ls cc) (λ x b q k. search (rules, tests)) ∙ first_is_position ls o
