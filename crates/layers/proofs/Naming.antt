@@ -58,18 +58,17 @@ mirror_named g k m =
       b' = k.shown m.b
 
 -- A block that a cache over a mirror has wiped is wiped on both sides.
-module _ {A B : Type 0} (g : Ghosts A) (k : Ghosts B) (n : ℕ) (c c' : Cache (Mirror A B)) (run : Effect (cached (mirrored g k)) (wipe n ∷ []) c c') (inside : n < length ((cached (mirrored g k)).shown c)) where
+pub wiped_both : {A B : Type 0} (g : Ghosts A) (k : Ghosts B) (n : ℕ) (c c' : Cache (Mirror A B)) → Effect (cached (mirrored g k)) (wipe n ∷ []) c c' → n < length ((cached (mirrored g k)).shown c)
+    → KeepsNothing g c'.below.a n × KeepsNothing k c'.below.b n
+wiped_both g k n c c' run l = (λ x b kept. gone x b (sides.first n here x b kept), λ x b kept. gone x b (sides.second n here x b kept)) where
+  sides : MirrorNamed g k c'.below
+  sides = mirror_named g k c'.below
+
   here : n < length ((mirrored g k).shown c'.below)
   here =
-      omega (arith, inside, ap length run.shows, count_after_all (wipe n ∷ []) ((cached (mirrored g k)).shown c), cache_count c'.table.lines ((mirrored g k).shown c'.below))
+      omega (arith, l, ap length run.shows, count_after_all (wipe n ∷ []) ((cached (mirrored g k)).shown c), cache_count c'.table.lines ((mirrored g k).shown c'.below))
 
   gone : KeepsNothing (mirrored g k) c'.below n
   gone x b kept =
-      wiped n ((cached (mirrored g k)).shown c) ((cached (mirrored g k)).shown c') ((cached (mirrored g k)).held c) ((cached (mirrored g k)).held c') run inside x b
+      wiped n ((cached (mirrored g k)).shown c) ((cached (mirrored g k)).shown c') ((cached (mirrored g k)).held c) ((cached (mirrored g k)).held c') run l x b
       ((cache_named (mirrored g k) c').below n here x b kept)
-
-  pub wiped_first : KeepsNothing g c'.below.a n
-  wiped_first x b kept = gone x b ((mirror_named g k c'.below).first n here x b kept)
-
-  pub wiped_second : KeepsNothing k c'.below.b n
-  wiped_second x b kept = gone x b ((mirror_named g k c'.below).second n here x b kept)
