@@ -19,8 +19,8 @@ const BLOCK: u32 = 2;
 
 const NAME: &str = "Margarete Onda";
 
-// A card, and the runtime that prints what becomes of it. Each has its own lifetime: with one for both, the borrow check covers no place
-// where a story is made.
+// A card, and the runtime that prints what becomes of it. Each has a lifetime of its own: with one for both, the borrow check doesn't cover
+// the function that makes a story.
 #[derive(Drop)]
 struct Story<'r, 'c, R, P> {
     rt: &'r R,
@@ -49,14 +49,15 @@ impl<R: Print + Alloc, P: Placement> Story<'_, '_, R, P> {
         self.report(label)
     }
 
-    fn name_written(&mut self) -> Result<(), Trouble> {
+    // The first step of each story.
+    fn written(&mut self) -> Result<(), Trouble> {
         self.step(
             "the name is written",
             |card| card.write(BLOCK, &sector_of(NAME)),
         )
     }
 
-    // The name is written and taken out of sight by the step, then the block is wiped.
+    // The name is written, then taken out of sight by this step, then the block is wiped.
     fn erased<F: FnOnce(&mut Card<P>) -> Result<(), DeviceFault>>(
         &mut self,
         label: &str,
@@ -64,14 +65,14 @@ impl<R: Print + Alloc, P: Placement> Story<'_, '_, R, P> {
     ) -> Result<(), Trouble>
         requires { F.IsAlwaysCallable act }
     {
-        self.name_written()?;
+        self.written()?;
         self.step(label, act)?;
         self.step("the block is wiped", |card| card.wipe(BLOCK))
     }
 
     // The name is replaced: the block is wiped before another is written.
     fn replaced(&mut self) -> Result<(), Trouble> {
-        self.name_written()?;
+        self.written()?;
         self.step(
             "another replaces it",
             |card| replace(card, BLOCK, &sector_of("Tomas Ibarra")),

@@ -1,6 +1,6 @@
 -- The bytes before the first zero are those that stand before its position, or all of them.
 use Rattle.std.proofs.Common.{rules, ◌≡◌, ℕ, List, [], ◌∷◌, ◌==◌, not, arith}
-use Rattle.std.specs.List.{position, before_first}
+use Rattle.std.specs.List.{before_first}
 use Rattle.std.proofs.lemmas.Grind.{common_steps}
 use Rattle.std.proofs.lemmas.List.Sums.{take_while-cons}
 use Rattle.std.proofs.lemmas.Iterator.{YieldsList-from_slice}
@@ -16,6 +16,4 @@ text_of-by_first (b ∷ s) = grind (arith, text_of-by_first s, take_while-cons (
 pub returns : goal.returns
 returns c =
     let s = c.args.sector.now in
-    let p : c.position.result ≡ position (λ (b : ℕ). b == 0) s =
-    position_from_yields_List _ _ _ c.position.result c.position.ensures.ran (YieldsList-from_slice s cc) (λ x b q k. search (rules, tests)) in
-    grind (arith, common_steps, text_of-by_first s)
+    grind (arith, common_steps, text_of-by_first s, position_from_yields_List (λ (b : ℕ). b == 0) _ _ c.position.result c.position.ensures.ran (YieldsList-from_slice s cc) (λ x b q k. search (rules, tests)))
