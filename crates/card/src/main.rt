@@ -37,46 +37,32 @@ impl<R: Print + Alloc, P: Placement> Story<'_, '_, R, P> {
         Ok(())
     }
 
-    // Acts on the card, and reports what it shows then.
-    fn step<F: FnOnce(&mut Card<P>) -> Result<(), DeviceFault>>(
-        &mut self,
-        label: &str,
-        act: F,
-    ) -> Result<(), Trouble>
-        requires { F.IsAlwaysCallable act }
-    {
-        act(&mut self.card)?;
-        self.report(label)
-    }
-
     // The first step of each story.
     fn written(&mut self) -> Result<(), Trouble> {
-        self.step(
-            "the name is written",
-            |card| card.write(BLOCK, &sector_of(NAME)),
-        )
+        self.card.write(BLOCK, &sector_of(NAME))?;
+        self.report("the name is written")
     }
 
-    // The name is written, then taken out of sight by this step, then the block is wiped.
+    // The name is written, then taken out of sight, then the block is wiped.
     fn erased<F: FnOnce(&mut Card<P>) -> Result<(), DeviceFault>>(
         &mut self,
         label: &str,
-        act: F,
+        erase: F,
     ) -> Result<(), Trouble>
-        requires { F.IsAlwaysCallable act }
+        requires { F.IsAlwaysCallable erase }
     {
         self.written()?;
-        self.step(label, act)?;
-        self.step("the block is wiped", |card| card.wipe(BLOCK))
+        erase(&mut self.card)?;
+        self.report(label)?;
+        self.card.wipe(BLOCK)?;
+        self.report("the block is wiped")
     }
 
     // The name is replaced: the block is wiped before another is written.
     fn replaced(&mut self) -> Result<(), Trouble> {
         self.written()?;
-        self.step(
-            "another replaces it",
-            |card| replace(card, BLOCK, &sector_of("Tomas Ibarra")),
-        )
+        replace(&mut self.card, BLOCK, &sector_of("Tomas Ibarra"))?;
+        self.report("another replaces it")
     }
 
     // All three: the name is overwritten with zeros, lost, and replaced.
