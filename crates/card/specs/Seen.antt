@@ -1,17 +1,16 @@
 -- What a person is shown of a block, and texts in sectors.
-use Rattle.std.specs.Prelude.{ℕ, if◌then◌else◌, List, [], ◌∷◌, ◌++◌, length, take, ◌==◌, nat_lt}
+use Rattle.std.specs.Prelude.{ℕ, if◌then◌else◌, List, [], ◌∷◌, ◌++◌, length, take, Ok, Err, ◌==◌, nat_lt}
 use Rattle.device.specs.Blocks.{Shown, lost, sector, shown_at, blank}
 use Rattle.device.specs.declared.fault.DeviceFault.TheVariants.{NoBlock, Lost}
 use Rattle.card.specs.declared.seen.Seen.{Seen}
-use Rattle.card.specs.declared.seen.Seen.TheVariants.{Sector, Refused}
 
 -- the sector that block n shows, or why it can't be read
 abbrev pub seen_block : ℕ → Shown → Seen
-seen_block n lost = Refused (Lost n)
-seen_block n (sector s) = Sector s
+seen_block n lost = record { 0 = Err (Lost n) }
+seen_block n (sector s) = record { 0 = Ok s }
 
 abbrev pub seen_at : List Shown → ℕ → Seen
-seen_at d n = if nat_lt n (length d) then seen_block n (shown_at d n) else Refused (NoBlock n)
+seen_at d n = if nat_lt n (length d) then seen_block n (shown_at d n) else record { 0 = Err (NoBlock n) }
 
 -- the bytes before the first zero
 abbrev pub text_of : List ℕ → List ℕ

@@ -6,8 +6,8 @@ mod pile;
 mod seen;
 mod trouble;
 
-use bottoms::{Card, InPlace, Placement, Rotation};
-use device::{Device, blank_sector, replace};
+use bottoms::{Card, Placement, Plain, Rotating};
+use device::{Device, DeviceFault, blank_sector, replace};
 use seen::{Seen, sector_of};
 use std::process::ExitCode;
 use trouble::Trouble;
@@ -19,58 +19,73 @@ const BLOCK: u32 = 2;
 
 const NAME: &str = "Margarete Onda";
 
-// Prints what reading the block shows, and how many sectors the card holds for it beside that.
-fn report<P: Placement>(rt: &HostRuntime, step: &str, card: &mut Card<P>) -> Result<(), Trouble> {
-    let seen = Seen::read(card, BLOCK).to_string(rt.alloc())?;
-    let held = card.held_count(BLOCK)?;
-    println!(rt; "  {step:<26}  {seen:<16}  {held}")?;
-    Ok(())
+// A card, and the runtime that prints what becomes of it. Each has a lifetime of its own: with one for both, the borrow check doesn't cover
+// the function that makes a story.
+#[derive(Drop)]
+struct Story<'r, 'c, R, P> {
+    rt: &'r R,
+    card: Card<'c, P>,
 }
 
-// Zeros are written over the name, then the block is wiped.
-fn zeros<P: Placement>(rt: &HostRuntime, card: &mut Card<P>) -> Result<(), Trouble> {
-    card.write(BLOCK, &sector_of(NAME))?;
-    report(rt, "the name is written", card)?;
-    card.write(BLOCK, &blank_sector())?;
-    report(rt, "zeros are written over it", card)?;
-    card.wipe(BLOCK)?;
-    report(rt, "the block is wiped", card)
+impl<R: Print + Alloc, P: Placement> Story<'_, '_, R, P> {
+    // Prints what reading the block shows, and how many sectors the card holds for it beside that. Only text is padded to a width, so what
+    // is shown becomes text first.
+    fn report(&mut self, label: &str) -> Result<(), Trouble> {
+        let seen = Seen::read(&mut self.card, BLOCK).to_string(self.rt.alloc())?;
+        let held = self.card.held_count(BLOCK)?;
+        println!(self.rt; "  {label:<26}  {seen:<16}  {held}")?;
+        Ok(())
+    }
+
+    // The first step of each story.
+    fn written(&mut self) -> Result<(), Trouble> {
+        self.card.write(BLOCK, &sector_of(NAME))?;
+        self.report("the name is written")
+    }
+
+    // The name is written, then taken out of sight, then the block is wiped.
+    fn erased<F: FnOnce(&mut Card<P>) -> Result<(), DeviceFault>>(
+        &mut self,
+        label: &str,
+        erase: F,
+    ) -> Result<(), Trouble>
+        requires { F.IsAlwaysCallable erase }
+    {
+        self.written()?;
+        erase(&mut self.card)?;
+        self.report(label)?;
+        self.card.wipe(BLOCK)?;
+        self.report("the block is wiped")
+    }
+
+    // The name is replaced: the block is wiped before another is written.
+    fn replaced(&mut self) -> Result<(), Trouble> {
+        self.written()?;
+        replace(&mut self.card, BLOCK, &sector_of("Tomas Ibarra"))?;
+        self.report("another replaces it")
+    }
+
+    // All three: the name is overwritten with zeros, lost, and replaced.
+    fn tell(&mut self) -> Result<(), Trouble> {
+        self.erased(
+            "zeros are written over it",
+            |card| card.write(BLOCK, &blank_sector()),
+        )?;
+        self.erased("the block is marked lost", |card| card.mark(BLOCK))?;
+        self.replaced()
+    }
 }
 
-// The block with the name is marked lost, then wiped.
-fn lost<P: Placement>(rt: &HostRuntime, card: &mut Card<P>) -> Result<(), Trouble> {
-    card.write(BLOCK, &sector_of(NAME))?;
-    report(rt, "the name is written", card)?;
-    card.mark(BLOCK)?;
-    report(rt, "the block is marked lost", card)?;
-    card.wipe(BLOCK)?;
-    report(rt, "the block is wiped", card)
-}
-
-// The name is replaced: the block is wiped before another is written.
-fn replaced<P: Placement>(rt: &HostRuntime, card: &mut Card<P>) -> Result<(), Trouble> {
-    card.write(BLOCK, &sector_of(NAME))?;
-    report(rt, "the name is written", card)?;
-    replace(card, BLOCK, &sector_of("Tomas Ibarra"))?;
-    report(rt, "another replaces it", card)
-}
-
-// All three on a card of these bytes.
-fn story<P: Placement>(rt: &HostRuntime, bytes: &mut [u8]) -> Result<(), Trouble> {
-    let mut card = Card::<P>::open(bytes, BLOCKS)?;
-    zeros(rt, &mut card)?;
-    lost(rt, &mut card)?;
-    replaced(rt, &mut card)
-}
-
-fn run(rt: &HostRuntime) -> Result<(), Trouble> {
+fn run(rt: &(impl Print + Alloc)) -> Result<(), Trouble> {
     println!(rt; "A name is written to block {BLOCK} of a card and erased.")?;
     println!(rt; "On a plain card               reading shows     sectors also held")?;
-    let mut plain = [0u8; 260];
-    story::<InPlace>(rt, &mut plain)?;
+    let mut bytes = [0u8; 260];
+    let card = Plain::open(&mut bytes, BLOCKS)?;
+    Story { rt, card }.tell()?;
     println!(rt; "On a rotating card            reading shows     sectors also held")?;
-    let mut rotating = [0u8; 1028];
-    story::<Rotation>(rt, &mut rotating)?;
+    let mut bytes = [0u8; 1028];
+    let card = Rotating::open(&mut bytes, BLOCKS)?;
+    Story { rt, card }.tell()?;
     println!(rt; "Zeros take the name out of sight. Only a wipe takes it off the card.")?;
     Ok(())
 }

@@ -7,69 +7,81 @@ use device::{Device, blank_sector};
 use layers::{Cache, Mirror, wipe_pile};
 use std::alloc::Global;
 
-type Pile<'a, 'b> = Cache<Mirror<Plain<'a>, Rotating<'b>>>;
+type Pile<'a> = Cache<Mirror<Plain<'a>, Rotating<'a>>>;
 
-// Adds a line: what reading the block shows through the pile and on each card, how many sectors the cards hold beside that, and whether a
-// sector waits for the block.
-fn report(alloc: Global, text: &mut String, step: &str, pile: &mut Pile) -> Result<(), Trouble> {
-    let seen = Seen::read(pile, BLOCK).to_string(alloc)?;
-    let plain = Seen::read(&mut pile.below.a, BLOCK).to_string(alloc)?;
-    let rotating = Seen::read(&mut pile.below.b, BLOCK).to_string(alloc)?;
-    let waits = if pile.waits(BLOCK) { "waits" } else { "" };
-    let first = pile.below.a.held_count(BLOCK)?;
-    let second = pile.below.b.held_count(BLOCK)?;
-    let line = format!(in alloc;
-        "  {step:<26}  {seen:<14}  {waits:<5}  {plain:<14}  {first}  {rotating:<14}  {second}\n"
-    )?;
-    text.push_str(&line)?;
-    Ok(())
+// A pile, and the lines that tell what becomes of it.
+#[derive(Drop)]
+struct Story<'a> {
+    pile: Pile<'a>,
+    text: String,
 }
 
-// The name waits in a line while zeros are written below it, and the flush brings it back.
-fn comes_back(alloc: Global, text: &mut String, pile: &mut Pile) -> Result<(), Trouble> {
-    pile.write(BLOCK, &sector_of(NAME))?;
-    report(alloc, text, "the name is written", pile)?;
-    pile.below.write(BLOCK, &blank_sector())?;
-    report(alloc, text, "zeros are written below", pile)?;
-    pile.flush();
-    report(alloc, text, "the pile is flushed", pile)
+impl Story<'_> {
+    // Adds a line: what reading the block shows through the pile and on each card, how many sectors the cards hold beside that, and whether
+    // a sector waits for the block.
+    fn report(&mut self, label: &str) -> Result<(), Trouble> {
+        let alloc = *self.text.allocator();
+        let seen = Seen::read(&mut self.pile, BLOCK).to_string(alloc)?;
+        let waits = if self.pile.waits(BLOCK) { "waits" } else { "" };
+        let Mirror { a, b } = &mut self.pile.below;
+        let plain = Seen::read(a, BLOCK).to_string(alloc)?;
+        let rotating = Seen::read(b, BLOCK).to_string(alloc)?;
+        let first = a.held_count(BLOCK)?;
+        let second = b.held_count(BLOCK)?;
+        writeln!(
+            self.text,
+            "  {label:<26}  {seen:<14}  {waits:<5}  {plain:<14}  {first}  {rotating:<14}  {second}"
+        )?;
+        Ok(())
+    }
+
+    // The name waits in a line while zeros are written below it, and the flush brings it back.
+    fn comes_back(&mut self) -> Result<(), Trouble> {
+        self.pile.write(BLOCK, &sector_of(NAME))?;
+        self.report("the name is written")?;
+        self.pile.below.write(BLOCK, &blank_sector())?;
+        self.report("zeros are written below")?;
+        self.pile.flush();
+        self.report("the pile is flushed")
+    }
+
+    // One card loses the block, and the mirror repairs it from the other.
+    fn repaired(&mut self) -> Result<(), Trouble> {
+        self.pile.below.a.mark(BLOCK)?;
+        self.report("the plain card loses it")?;
+        let sides = self.pile.below.repair(BLOCK)?;
+        writeln!(self.text, "  repaired, sides written: {sides}")?;
+        self.report("the block is repaired")
+    }
+
+    // Zeros through the whole pile leave the name on a card. A wipe leaves it nowhere.
+    fn wiped(&mut self) -> Result<(), Trouble> {
+        self.pile.write(BLOCK, &blank_sector())?;
+        self.pile.flush();
+        self.report("zeros, and flushed")?;
+        self.pile.write(BLOCK, &sector_of(NAME))?;
+        self.report("the name is written again")?;
+        wipe_pile(&mut self.pile, BLOCK)?;
+        self.report("the block is wiped")?;
+        self.pile.flush();
+        self.report("the pile is flushed")
+    }
 }
 
-// One card loses the block, and the mirror repairs it from the other.
-fn repaired(alloc: Global, text: &mut String, pile: &mut Pile) -> Result<(), Trouble> {
-    pile.below.a.mark(BLOCK)?;
-    report(alloc, text, "the plain card loses it", pile)?;
-    let sides = pile.below.repair(BLOCK)?;
-    let line = format!(in alloc; "  repaired, sides written: {sides}\n")?;
-    text.push_str(&line)?;
-    report(alloc, text, "the block is repaired", pile)
-}
-
-// Zeros through the whole pile leave the name on a card. A wipe leaves it nowhere.
-fn wiped(alloc: Global, text: &mut String, pile: &mut Pile) -> Result<(), Trouble> {
-    pile.write(BLOCK, &blank_sector())?;
-    pile.flush();
-    report(alloc, text, "zeros, and flushed", pile)?;
-    pile.write(BLOCK, &sector_of(NAME))?;
-    report(alloc, text, "the name is written again", pile)?;
-    wipe_pile(pile, BLOCK)?;
-    report(alloc, text, "the block is wiped", pile)?;
-    pile.flush();
-    report(alloc, text, "the pile is flushed", pile)
-}
-
-// All three on a new pile.
-fn story(alloc: Global) -> Result<String, Trouble> {
+// All three on a new pile, as text.
+fn tell(alloc: Global) -> Result<String, Trouble> {
     let mut first = [0u8; 260];
     let mut second = [0u8; 1028];
     let plain = Plain::open(&mut first, BLOCKS)?;
     let rotating = Rotating::open(&mut second, BLOCKS)?;
-    let mut pile = Cache::new(Mirror::new(plain, rotating));
-    let mut text = String::new(alloc);
-    comes_back(alloc, &mut text, &mut pile)?;
-    repaired(alloc, &mut text, &mut pile)?;
-    wiped(alloc, &mut text, &mut pile)?;
-    Ok(text)
+    let mut story = Story {
+        pile: Cache::new(Mirror::new(plain, rotating)),
+        text: String::new(alloc),
+    };
+    story.comes_back()?;
+    story.repaired()?;
+    story.wiped()?;
+    Ok(story.text)
 }
 
 // What the pile shows, whether a sector waits, and what each card shows and how much it holds beside that.
@@ -88,7 +100,7 @@ const EXPECTED: [&str; 10] = [
 
 #[test]
 fn each_step_of_the_pile(rt: HostRuntime) -> Result<(), Trouble> {
-    let text = story(rt.alloc())?;
+    let text = tell(rt.alloc())?;
     for (line, expected) in text.lines().zip(EXPECTED) {
         assert_eq!(rt; line, expected);
     }

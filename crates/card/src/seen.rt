@@ -3,15 +3,12 @@ ghost use Rattle.std.specs.Prelude.{◌≡◌, []};
 ghost use Rattle.device.specs.Operations.{Ran};
 ghost use Rattle.card.specs.Seen.{seen_at, text_of, padded};
 
-use device::{Device, DeviceFault, Sector};
+use device::{Device, DeviceFault, Sector, blank_sector};
 use std::fmt;
 
 // A sector, or why there is none to see.
 #[derive(Drop)]
-pub enum Seen {
-    Sector(Sector),
-    Refused(DeviceFault),
-}
+pub struct Seen(Result<Sector, DeviceFault>);
 
 impl Seen {
     // What block n shows. The device is as it was.
@@ -19,11 +16,8 @@ impl Seen {
         ensures value { result ≡ seen_at (D.shown device.old) n }
         ensures effect { Ran [] (D.shown device.old) (D.held device.old) (D.shown device.new) (D.held device.new) }
     {
-        let mut sector = [0; 64];
-        match device.read(n, &mut sector) {
-            Ok(()) => Seen::Sector(sector),
-            Err(fault) => Seen::Refused(fault),
-        }
+        let mut sector = blank_sector();
+        Seen(device.read(n, &mut sector).and(Ok(sector)))
     }
 }
 
@@ -31,26 +25,19 @@ impl Seen {
 fn text_in(sector: &Sector) -> &[u8]
     ensures { result.now ≡ text_of sector.now }
 {
-    for (i, b) in sector.iter().enumerate() {
-        if *b == 0 {
-            return &sector[0..i];
-        }
-    }
-    sector
+    let end = sector.iter().position(|b| *b == 0).unwrap_or(sector.len());
+    &sector[..end]
 }
 
 impl fmt::Display for Seen {
     fn fmt<W: fmt::Write>(&self, f: &mut fmt::Formatter<W>) -> fmt::Result {
-        match self {
-            Seen::Refused(fault) => {
-                let ground = fault.ground();
-                write!(f, "refused with {ground}")
-            }
-            Seen::Sector(sector) => match std::str::from_utf8(text_in(sector)) {
+        match &self.0 {
+            Ok(sector) => match std::str::from_utf8(text_in(sector)) {
                 Ok("") => write!(f, "zeros"),
                 Ok(text) => write!(f, "{text}"),
                 Err(_) => write!(f, "bytes that are no text"),
             },
+            Err(fault) => write!(f, "refused with {}", fault.ground()),
         }
     }
 }
@@ -59,8 +46,8 @@ impl fmt::Display for Seen {
 pub(crate) fn sector_of(text: &str) -> Sector
     ensures { result ≡ padded text.now }
 {
-    let mut sector = [0; 64];
-    let room = text.len().min(64);
-    sector[0..room].copy_from_slice(&text.as_bytes()[0..room]);
+    let mut sector = blank_sector();
+    let room = text.len().min(sector.len());
+    sector[..room].copy_from_slice(&text.as_bytes()[..room]);
     sector
 }

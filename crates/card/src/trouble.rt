@@ -16,6 +16,7 @@ pub enum Trouble {
     Memory,
 }
 
+// The conversions are written by hand, since a derived one promises nothing of the trouble that it gives.
 impl From<Refused<'_>> for Trouble {
     ghost from_gives = { λ refusal r. r ≡ Open refusal.fault };
 
@@ -51,15 +52,13 @@ impl From<io::Error> for Trouble {
 impl fmt::Display for Trouble {
     fn fmt<W: fmt::Write>(&self, f: &mut fmt::Formatter<W>) -> fmt::Result {
         match self {
-            Trouble::Open(fault) => {
-                let ground = fault.ground();
-                write!(f, "the memory is refused with {ground}")
-            }
-            Trouble::Device(fault) => {
-                let ground = fault.ground();
-                let block = fault.block();
-                write!(f, "block {block} is refused with {ground}")
-            }
+            Trouble::Open(fault) => write!(f, "the memory is refused with {}", fault.ground()),
+            Trouble::Device(fault) => write!(
+                f,
+                "block {} is refused with {}",
+                fault.block(),
+                fault.ground()
+            ),
             Trouble::Io(error) => write!(f, "{error}"),
             Trouble::Memory => write!(f, "there is no memory left"),
         }

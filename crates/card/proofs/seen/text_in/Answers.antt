@@ -1,38 +1,19 @@
--- One byte more that isn't zero, the first zero, or the end.
-use Rattle.std.proofs.Common.{◌≡◌, ℕ, ◌+◌, ◌-◌, ◌<◌, ◌≤◌, eqb, List, [], ◌∷◌, ◌++◌, length, get_or, take, drop, sym, ap, ◌∙◌, arith}
-use Rattle.std.proofs.lemmas.List.{append_assoc, append-nil, take_all, take_more, drop_all, drop_more}
-use Rattle.std.proofs.lemmas.Bool.{cond-true, cond-false, eq-eqb, ne_eqb}
+-- The bytes before the first zero are those that stand before its position, or all of them.
+use Rattle.std.proofs.Common.{rules, ◌≡◌, ℕ, List, [], ◌∷◌, ◌==◌, not, arith}
+use Rattle.std.specs.List.{before_first}
+use Rattle.std.proofs.lemmas.Grind.{common_steps}
+use Rattle.std.proofs.lemmas.List.Sums.{take_while-cons}
+use Rattle.std.proofs.lemmas.Iterator.{YieldsList-from_slice}
+use Rattle.std.proofs.lemmas.Iterator.Search.{position_from_yields_List}
+use borrow.Author.Tests.{tests}
 use Rattle.card.specs.Seen.{text_of}
 use Rattle.card.proofs.seen.text_in.Goals as goal
 
--- what is left begins with a byte that isn't zero
-next : (s : List ℕ) (i : ℕ) → i < length s → (get_or s i 0 ≡ 0 → ⊥) → text_of s ≡ take i s ++ text_of (drop i s) → text_of s ≡ take (i + 1) s ++ text_of (drop (i + 1) s)
-next s i h ne e =
-    let b : ℕ = get_or s i 0 in
-    let rest : List ℕ = text_of (drop (i + 1) s) in
-    let f : text_of (drop i s) ≡ b ∷ rest = ap text_of (drop_more s i 0 h) ∙ cond-false (eqb b 0) [] (b ∷ rest) (ne_eqb b 0 ne) in
-    e ∙ ap (λ (x : List ℕ). take i s ++ x) f ∙ sym (append_assoc (take i s) (b ∷ []) rest) ∙ ap (λ (x : List ℕ). x ++ rest) (sym (take_more s i 0 h))
-
--- what is left begins with a zero
-ends : (s : List ℕ) (i : ℕ) → i < length s → get_or s i 0 ≡ 0 → text_of s ≡ take i s ++ text_of (drop i s) → text_of s ≡ take i s
-ends s i h z e =
-    let rest : List ℕ = text_of (drop (i + 1) s) in
-    let f : text_of (drop i s) ≡ [] = ap text_of (drop_more s i 0 h) ∙ cond-true (eqb (get_or s i 0) 0) [] (get_or s i 0 ∷ rest) (eq-eqb (get_or s i 0) 0 z) in
-    e ∙ ap (λ (x : List ℕ). take i s ++ x) f ∙ append-nil (take i s)
-
-pub loop-i-preserved : goal.loop-i-preserved
-loop-i-preserved c = next c.args.sector.now c.loop-i.i (omega arith) c.if-b-eq0.false c.loop-i.invariant
-
-pub returns-then-b-eq0 : goal.returns-then-b-eq0
-returns-then-b-eq0 c =
-    let s = c.args.sector.now in
-    let i = c.loop-i.i in
-    let e : i - 0 ≡ i = omega arith in
-    ap (λ (k : ℕ). take k s) e ∙ sym (ends s i (omega arith) c.if-b-eq0.true c.loop-i.invariant)
+text_of-by_first : (s : List ℕ) → text_of s ≡ before_first (λ (b : ℕ). b == 0) s
+text_of-by_first [] = grind arith
+text_of-by_first (b ∷ s) = grind (arith, text_of-by_first s, take_while-cons (λ (x : ℕ). not (x == 0)) b s)
 
 pub returns : goal.returns
 returns c =
     let s = c.args.sector.now in
-    let i = c.loop-i.i in
-    let long : length s ≤ i = omega arith in
-    sym (c.loop-i.invariant ∙ ap (λ (x : List ℕ). take i s ++ text_of x) (drop_all i s long) ∙ append-nil (take i s) ∙ take_all i s long)
+    grind (arith, common_steps, text_of-by_first s, position_from_yields_List (λ (b : ℕ). b == 0) _ _ c.position.result c.position.ensures.ran (YieldsList-from_slice s cc) (λ x b q k. search (rules, tests)))
