@@ -1,11 +1,11 @@
 -- Where a held sector comes from: it was held or shown before, or was written.
-use Rattle.std.proofs.Common.{◌≡◌, ℕ, ◌<◌, true, false, cond, eqb, ◌⊎◌, List, [], ◌∷◌, length, sym, refl, ap, ◌∙◌, subst, inl, inr, ⊎_elim, arith}
+use Rattle.std.proofs.Common.{◌≡◌, ℕ, ◌<◌, true, false, cond, eqb, ◌⊎◌, List, [], ◌∷◌, length, sym, refl, ap, ◌∙◌, inl, inr, arith}
 use mathlib.Core.List.Memᴰ
-use Rattle.std.proofs.lemmas.Bool.{both_ways, cases_eq, cond-true, cond-false, eq-eqb, ne_eqb}
+use Rattle.std.proofs.lemmas.Bool.{cases_eq, eq-eqb}
 use Rattle.device.specs.Blocks.{Shown, sector, shown_at, Held, ◌∈◌, blank, is_blank}
 use Rattle.device.specs.Operations.{Op, write, wipe, lose, target, result, block_after, joined, left_by, may_hold, may_hold_all, Ran}
 use Rattle.device.specs.Forgetting.{ForgotAllBut}
-use Rattle.device.proofs.Operations.{from_joined, block_changed, block_ran, count_after_all, shown_after_all, ran-++}
+use Rattle.device.proofs.Operations.{at_target, elsewhere, from_joined, block_changed, block_ran, count_after_all, shown_after_all, ran-++}
 
 -- where a sector that may join comes from
 in_joined : (c : Shown) (kept : List (List ℕ)) (x : List ℕ) → x ∈ joined c kept → (c ≡ sector x) ⊎ (x ∈ kept)
@@ -22,39 +22,36 @@ in_may_hold o n c kept x m = elim (eqb n (target o)) as (λ b. x ∈ cond b (lef
 -- a sector that isn't blank is shown after an operation only if that wrote it, or if it was shown before
 shown_by : (o : Op) (x : List ℕ) → is_blank x ≡ false → result o ≡ sector x → o ≡ write (target o) x
 shown_by (write n s) x b e = cc
-shown_by (wipe n) x b e = let z : blank ≡ x = cc in absurd (both_ways (is_blank x) b (ap is_blank (sym z)))
-shown_by (lose n) x b e = let z : ◌≡◌ {A = ℕ} 0 1 = cc in absurd (omega arith)
+shown_by (wipe n) x b e = let z : blank ≡ x = cc in cc (ap is_blank z)
+shown_by (lose n) x b e = cc
 
 block_by : (o : Op) (n : ℕ) (c : Shown) (x : List ℕ) → is_blank x ≡ false → block_after o n c ≡ sector x → (c ≡ sector x) ⊎ (write n x ≡ o)
 block_by o n c x b e =
-    ⊎_elim
-    (λ (at : n ≡ target o).
-    let r : result o ≡ sector x = sym (cond-true (eqb n (target o)) (result o) c (eq-eqb n (target o) at)) ∙ e in
-    inr (ap (λ (k : ℕ). write k x) at ∙ sym (shown_by o x b r)))
-    (λ (ne : n ≡ target o → ⊥). inl (sym (cond-false (eqb n (target o)) (result o) c (ne_eqb n (target o) ne)) ∙ e))
-    (cases_eq n (target o))
+    elim (cases_eq n (target o)) [
+      | inl here ↦ inr (cc (shown_by o x b (sym (at_target o n (result o) c here) ∙ e)))
+      | inr ne ↦ inl (sym (elsewhere o n (result o) c ne) ∙ e)
+    ]
 
 -- Whatever operations a block goes through, a sector that isn't blank and that it may hold then was held or shown before, or was written to it.
 pub held_from : (os : List Op) (n : ℕ) (c : Shown) (kept : List (List ℕ)) (x : List ℕ) → is_blank x ≡ false → x ∈ may_hold_all os n c kept
     → (c ≡ sector x) ⊎ ((x ∈ kept) ⊎ (write n x ∈ os))
 held_from [] n c kept x b m = inr (inl m)
 held_from (o ∷ os) n c kept x b m =
-    ⊎_elim
-    (λ (e : block_after o n c ≡ sector x). ⊎_elim inl (λ (w : write n x ≡ o). inr (inr (Memᴰ.head w))) (block_by o n c x b e))
-    (λ r.
-    ⊎_elim
-    (λ (i : x ∈ may_hold o n c kept). ⊎_elim inl (λ (k : x ∈ kept). inr (inl k)) (in_may_hold o n c kept x i))
-    (λ (w : write n x ∈ os). inr (inr (Memᴰ.tail w)))
-    r)
-    (held_from os n (block_after o n c) (may_hold o n c kept) x b m)
+    elim (held_from os n (block_after o n c) (may_hold o n c kept) x b m) [
+      | inl e ↦ elim (block_by o n c x b e) [ inl k ↦ inl k | inr w ↦ inr (inr (Memᴰ.head w)) ]
+      | inr r ↦ elim r [
+        | inl i ↦ elim (in_may_hold o n c kept x i) [ inl k ↦ inl k | inr k ↦ inr (inl k) ]
+        | inr w ↦ inr (inr (Memᴰ.tail w))
+      ]
+    ]
 
 -- A block that shows s and holds nothing has forgotten all but s.
 pub forgot_all_but : (s : List ℕ) (n : ℕ) (d : List Shown) (h : Held) → n < length d → shown_at d n ≡ sector s → ((x : List ℕ) → x ∈ h n → ⊥) → ForgotAllBut s n d h
-forgot_all_but s n d h l shows none os d' h' run x m b =
-    ⊎_elim
-    (λ (e : shown_at d n ≡ sector x). let z : sector x ≡ sector s = sym e ∙ shows in let y : x ≡ s = cc in inl y)
-    (λ r. ⊎_elim (λ (i : x ∈ h n). absurd (none x i)) inr r)
-    (held_from os n (shown_at d n) (h n) x b (run.holds n l x m))
+forgot_all_but s n d h inside shows none os d' h' run x m b =
+    elim (held_from os n (shown_at d n) (h n) x b (run.holds n inside x m)) [
+      | inl e ↦ inl cc
+      | inr r ↦ elim r [ inl i ↦ absurd (none x i) | inr w ↦ inr w ]
+    ]
 
 -- A wipe and then a write of block n: the block holds nothing and has forgotten all but what was written.
 module _ (n : ℕ) (x : List ℕ) (d d₁ d₂ : List Shown) (h h₁ h₂ : Held) (wiped : Ran (wipe n ∷ []) d h d₁ h₁) (written : Ran (write n x ∷ []) d₁ h₁ d₂ h₂) (inside : n < length d) where
@@ -62,9 +59,7 @@ module _ (n : ℕ) (x : List ℕ) (d d₁ d₂ : List Shown) (h h₁ h₂ : Held
   run = ran-++ (wipe n ∷ []) (write n x ∷ []) d d₁ d₂ h h₁ h₂ wiped written
 
   pub replaced_holds_nothing : (s : List ℕ) → s ∈ h₂ n → ⊥
-  replaced_holds_nothing s m = Memᴰ.not-nil (subst (λ (z : List (List ℕ)). s ∈ z) none (run.holds n inside s m)) where
-    none : may_hold_all (wipe n ∷ write n x ∷ []) n (shown_at d n) (h n) ≡ []
-    none = simp (eq-eqb n n refl)
+  replaced_holds_nothing s m = Memᴰ.not-nil (simp (eq-eqb n n refl) at (run.holds n inside s m))
 
   pub replaced_forgot : ForgotAllBut x n d₂ h₂
   replaced_forgot = forgot_all_but x n d₂ h₂ here shows replaced_holds_nothing where
@@ -72,13 +67,13 @@ module _ (n : ℕ) (x : List ℕ) (d d₁ d₂ : List Shown) (h h₁ h₂ : Held
     here = omega (arith, ap length run.shows, count_after_all (wipe n ∷ write n x ∷ []) d)
 
     shows : shown_at d₂ n ≡ sector x
-    shows = ap (λ (y : List Shown). shown_at y n) run.shows ∙ shown_after_all (wipe n ∷ write n x ∷ []) d n inside ∙ cond-true (eqb n n) (sector x) _ (eq-eqb n n refl)
+    shows = rw (run.shows, shown_after_all (wipe n ∷ write n x ∷ []) d n inside) (simp (eq-eqb n n refl))
 
 -- A wiped block shows zeros and holds nothing.
 pub wiped : (n : ℕ) (d d' : List Shown) (h h' : Held) → Ran (wipe n ∷ []) d h d' h' → n < length d → (x : List ℕ) → is_blank x ≡ false → (shown_at d' n ≡ sector x) ⊎ (x ∈ h' n) → ⊥
-wiped n d d' h h' run l x b kept =
-    let here = block_changed (wipe n) n refl (shown_at d n) (h n) (shown_at d' n) (h' n) (block_ran (wipe n ∷ []) d d' h h' run n l) in
+wiped n d d' h h' run inside x b kept =
+    let here = block_changed (wipe n) n refl (shown_at d n) (h n) (shown_at d' n) (h' n) (block_ran (wipe n ∷ []) d d' h h' run n inside) in
     elim kept [
-      | inl e ↦ (let p : sector x ≡ sector blank = sym e ∙ here.0 in let z : x ≡ blank = cc in both_ways (is_blank x) b (ap is_blank z))
+      | inl e ↦ cc
       | inr m ↦ Memᴰ.not-nil (here.1 x m)
     ]

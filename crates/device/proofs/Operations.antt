@@ -1,5 +1,5 @@
 -- Operations one after the other: lists of them joined, and one block seen alone.
-use Rattle.std.proofs.Common.{◌≡◌, ℕ, ◌<◌, ◌≤◌, true, false, cond, eqb, ◌⊎◌, List, [], ◌∷◌, ◌++◌, length, sym, refl, ap, ◌∙◌, subst, inl, inr, ⊎_elim, arith}
+use Rattle.std.proofs.Common.{◌≡◌, ℕ, ◌<◌, ◌≤◌, true, false, cond, eqb, ◌⊎◌, List, [], ◌∷◌, ◌++◌, length, sym, refl, ap, ◌∙◌, inl, inr, ⊎_elim, arith}
 use mathlib.Core.List.Memᴰ
 use Rattle.std.proofs.lemmas.List.{ext_get_or, length-set, get_or-set_same, get_or-set_other, set_past}
 use Rattle.std.proofs.lemmas.Bool.{cases_Bool, cases_eq, cond-true, cond-false, eq-eqb, ne_eqb}
@@ -11,31 +11,34 @@ abbrev pub Among : List (List ℕ) → List (List ℕ) → Type 0
 Among xs ys = (s : List ℕ) → s ∈ xs → s ∈ ys
 
 -- no operation changes the count
-pub count_after : (o : Op) (d : List Shown) → length (after o d) ≡ length d
+count_after : (o : Op) (d : List Shown) → length (after o d) ≡ length d
 count_after o d = length-set d (target o) (result o)
 
 pub count_after_all : (os : List Op) (d : List Shown) → length (after_all os d) ≡ length d
 count_after_all [] d = refl
 count_after_all (o ∷ os) d = count_after_all os (after o d) ∙ count_after o d
 
+-- an operation at the block that it names, and at another
+pub at_target : {A : Type 0} (o : Op) (n : ℕ) (x y : A) → n ≡ target o → cond (eqb n (target o)) x y ≡ x
+at_target o n x y here = cond-true (eqb n (target o)) x y (eq-eqb n (target o) here)
+
+pub elsewhere : {A : Type 0} (o : Op) (n : ℕ) (x y : A) → (n ≡ target o → ⊥) → cond (eqb n (target o)) x y ≡ y
+elsewhere o n x y ne = cond-false (eqb n (target o)) x y (ne_eqb n (target o) ne)
+
 -- the list of blocks after an operation, seen at one block
-pub shown_after : (o : Op) (d : List Shown) (n : ℕ) → n < length d → shown_at (after o d) n ≡ block_after o n (shown_at d n)
-shown_after o d n h =
-    ⊎_elim
-    (λ (e : n ≡ target o).
-    let t : target o < length d = subst (λ (k : ℕ). k < length d) e h in
-    ap (shown_at (after o d)) e ∙ get_or-set_same d (target o) (result o) lost t ∙ sym (cond-true (eqb n (target o)) (result o) (shown_at d n) (eq-eqb n (target o) e)))
-    (λ (ne : n ≡ target o → ⊥).
-    get_or-set_other d (target o) n (result o) lost ne ∙ sym (cond-false (eqb n (target o)) (result o) (shown_at d n) (ne_eqb n (target o) ne)))
-    (cases_eq n (target o))
+shown_after : (o : Op) (d : List Shown) (n : ℕ) → n < length d → shown_at (after o d) n ≡ block_after o n (shown_at d n)
+shown_after o d n inside =
+    elim (cases_eq n (target o)) [
+      | inl here ↦ rw (at_target o n (result o) (shown_at d n) here, here) (get_or-set_same d (target o) (result o) lost (omega arith))
+      | inr ne ↦ rw (elsewhere o n (result o) (shown_at d n) ne) (get_or-set_other d (target o) n (result o) lost ne)
+    ]
 
 pub shown_after_all : (os : List Op) (d : List Shown) (n : ℕ) → n < length d → shown_at (after_all os d) n ≡ block_after_all os n (shown_at d n)
-shown_after_all [] d n h = refl
-shown_after_all (o ∷ os) d n h =
-    shown_after_all os (after o d) n (subst (λ (k : ℕ). n < k) (sym (count_after o d)) h) ∙ ap (block_after_all os n) (shown_after o d n h)
+shown_after_all [] d n inside = refl
+shown_after_all (o ∷ os) d n inside = shown_after_all os (after o d) n (omega (arith, count_after o d)) ∙ ap (block_after_all os n) (shown_after o d n inside)
 
 -- lists of operations joined
-pub after_all-++ : (os ps : List Op) (d : List Shown) → after_all (os ++ ps) d ≡ after_all ps (after_all os d)
+after_all-++ : (os ps : List Op) (d : List Shown) → after_all (os ++ ps) d ≡ after_all ps (after_all os d)
 after_all-++ [] ps d = refl
 after_all-++ (o ∷ os) ps d = after_all-++ os ps (after o d)
 
@@ -53,17 +56,14 @@ kept_joined lost kept s m = m
 kept_joined (sector x) kept s m = elim (is_blank x) as (λ b. s ∈ cond b kept (x ∷ kept)) [ true ↦ m | false ↦ Memᴰ.tail m ]
 
 pub to_joined : (c : Shown) (kept : List (List ℕ)) (s : List ℕ) → c ≡ sector s → is_blank s ≡ false → s ∈ joined c kept
-to_joined c kept s e b =
-    subst (λ (x : Shown). s ∈ joined x kept) (sym e) (subst (λ (l : List (List ℕ)). s ∈ l) (sym (cond-false (is_blank s) kept (s ∷ kept) b)) (Memᴰ.head refl))
+to_joined c kept s e b = rw (e, b) (Memᴰ.head refl)
 
 pub from_joined : (c : Shown) (kept : List (List ℕ)) (s : List ℕ) → s ∈ joined c kept → (s ∈ kept) ⊎ ((c ≡ sector s) × (is_blank s ≡ false))
 from_joined lost kept s m = inl m
 from_joined (sector x) kept s m =
     elim (cases_Bool (is_blank x)) [
-      | inl b ↦ inl (subst (λ (l : List (List ℕ)). s ∈ l) (cond-true (is_blank x) kept (x ∷ kept) b) m)
-      | inr b ↦
-          ⊎_elim (λ (e : s ≡ x). inr (ap sector (sym e), ap is_blank e ∙ b)) (λ (k : s ∈ kept). inl k)
-          (Memᴰ.cases_cons (subst (λ (l : List (List ℕ)). s ∈ l) (cond-false (is_blank x) kept (x ∷ kept) b) m))
+      | inl b ↦ inl (rw b at m)
+      | inr b ↦ elim (Memᴰ.cases_cons (rw b at m)) [ inl e ↦ inr (cc, cc) | inr k ↦ inl k ]
     ]
 
 -- where less was held, less may be held
@@ -89,62 +89,49 @@ pub record BlockRan (os : List Op) (n : ℕ) (c : Shown) (kept : List (List ℕ)
   pub holds : Among kept' (may_hold_all os n c kept)
 
 -- an operation on another block leaves this one alone
-module _ (o : Op) (n : ℕ) (elsewhere : n ≡ target o → ⊥) (c : Shown) (kept : List (List ℕ)) (c' : Shown) (kept' : List (List ℕ)) where
-  same_shown : block_after o n c ≡ c
-  same_shown = cond-false (eqb n (target o)) (result o) c (ne_eqb n (target o) elsewhere)
-
-  same_held : may_hold o n c kept ≡ kept
-  same_held = cond-false (eqb n (target o)) (left_by o c kept) kept (ne_eqb n (target o) elsewhere)
-
+module _ (o : Op) (n : ℕ) (ne : n ≡ target o → ⊥) (c : Shown) (kept : List (List ℕ)) (c' : Shown) (kept' : List (List ℕ)) where
   pub block_untouched : BlockRan (o ∷ []) n c kept c' kept' → BlockRan [] n c kept c' kept'
-  block_untouched run = record { shows = run.shows ∙ same_shown; holds = subst (Among kept') same_held run.holds }
+  block_untouched run = record { shows = run.shows ∙ elsewhere o n (result o) c ne; holds = rw (elsewhere o n (left_by o c kept) kept ne) at run.holds }
 
   pub block_elsewhere : BlockRan [] n c kept c' kept' → BlockRan (o ∷ []) n c kept c' kept'
-  block_elsewhere run = record { shows = run.shows ∙ sym same_shown; holds = subst (Among kept') (sym same_held) run.holds }
+  block_elsewhere run = record { shows = run.shows ∙ sym (elsewhere o n (result o) c ne); holds = rw (elsewhere o n (left_by o c kept) kept ne) run.holds }
 
 -- the block that an operation names
 module _ (o : Op) (n : ℕ) (here : n ≡ target o) (c : Shown) (kept : List (List ℕ)) (c' : Shown) (kept' : List (List ℕ)) where
   pub block_here : c' ≡ result o → Among kept' (left_by o c kept) → BlockRan (o ∷ []) n c kept c' kept'
-  block_here e among =
-      record {
-        shows = e ∙ sym (cond-true (eqb n (target o)) (result o) c (eq-eqb n (target o) here));
-        holds = subst (Among kept') (sym (cond-true (eqb n (target o)) (left_by o c kept) kept (eq-eqb n (target o) here))) among;
-      }
+  block_here e among = record { shows = e ∙ sym (at_target o n (result o) c here); holds = rw (at_target o n (left_by o c kept) kept here) among }
 
   pub block_changed : BlockRan (o ∷ []) n c kept c' kept' → (c' ≡ result o) × Among kept' (left_by o c kept)
-  block_changed run =
-      (run.shows ∙ cond-true (eqb n (target o)) (result o) c (eq-eqb n (target o) here), subst (Among kept') (cond-true (eqb n (target o)) (left_by o c kept) kept (eq-eqb n (target o) here)) run.holds)
+  block_changed run = (run.shows ∙ at_target o n (result o) c here, rw (at_target o n (left_by o c kept) kept here) at run.holds)
 
 -- a run, seen at one block
 pub block_ran : (os : List Op) (d d' : List Shown) (h h' : Held) → Ran os d h d' h' → (n : ℕ) → n < length d → BlockRan os n (shown_at d n) (h n) (shown_at d' n) (h' n)
-block_ran os d d' h h' run n l = record { shows = ap (λ (x : List Shown). shown_at x n) run.shows ∙ shown_after_all os d n l; holds = run.holds n l }
+block_ran os d d' h h' run n inside = record { shows = rw run.shows (shown_after_all os d n inside); holds = run.holds n inside }
 
 -- what happens to each block makes a run
 pub ran_by_block : (os : List Op) (d d' : List Shown) (h h' : Held) → length d' ≡ length d → ((n : ℕ) → n < length d → BlockRan os n (shown_at d n) (h n) (shown_at d' n) (h' n)) → Ran os d h d' h'
-ran_by_block os d d' h h' len each = record { shows = ext_get_or lost d' (after_all os d) (len ∙ sym (count_after_all os d)) same; holds = λ n l. (each n l).holds } where
+ran_by_block os d d' h h' len each = record { shows = ext_get_or lost d' (after_all os d) (omega (arith, count_after_all os d)) same; holds = λ n inside. (each n inside).holds } where
   same : (n : ℕ) → n < length d' → shown_at d' n ≡ shown_at (after_all os d) n
-  same n l = let m : n < length d = omega (arith, len) in (each n m).shows ∙ sym (shown_after_all os d n m)
+  same n inside' = let inside : n < length d = omega (arith, len) in (each n inside).shows ∙ sym (shown_after_all os d n inside)
 
 -- a call that changes no shown block and adds nothing to what is held
 pub ran_nothing : (d : List Shown) (h : Held) → Ran [] d h d h
-ran_nothing d h = record { shows = refl; holds = λ n l s m. m }
+ran_nothing d h = record { shows = refl; holds = λ n inside s m. m }
 
 -- one run after another is the run of the joined list
 pub ran-++ : (os ps : List Op) (d d₁ d₂ : List Shown) (h h₁ h₂ : Held) → Ran os d h d₁ h₁ → Ran ps d₁ h₁ d₂ h₂ → Ran (os ++ ps) d h d₂ h₂
 ran-++ os ps d d₁ d₂ h h₁ h₂ one two = record { shows = two.shows ∙ ap (after_all ps) one.shows ∙ sym (after_all-++ os ps d); holds = kept } where
   kept : (n : ℕ) → n < length d → (s : List ℕ) → s ∈ h₂ n → s ∈ may_hold_all (os ++ ps) n (shown_at d n) (h n)
-  kept n l s m =
-      let len : length d₁ ≡ length d = ap length one.shows ∙ count_after_all os d in
-      let at : shown_at d₁ n ≡ block_after_all os n (shown_at d n) = ap (λ (x : List Shown). shown_at x n) one.shows ∙ shown_after_all os d n l in
-      let i : s ∈ may_hold_all ps n (shown_at d₁ n) (h₁ n) = two.holds n (subst (λ (k : ℕ). n < k) (sym len) l) s m in
-      let j : s ∈ may_hold_all ps n (block_after_all os n (shown_at d n)) (h₁ n) = subst (λ (c : Shown). s ∈ may_hold_all ps n c (h₁ n)) at i in
-      subst (λ (x : List (List ℕ)). s ∈ x) (sym (may_hold_all-++ os ps n (shown_at d n) (h n)))
-      (may_hold_all_among ps n (block_after_all os n (shown_at d n)) (h₁ n) (may_hold_all os n (shown_at d n) (h n)) (one.holds n l) s j)
+  kept n inside s m =
+      let first = block_ran os d d₁ h h₁ one n inside in
+      let inside₁ : n < length d₁ = omega (arith, ap length one.shows, count_after_all os d) in
+      let i : s ∈ may_hold_all ps n (block_after_all os n (shown_at d n)) (h₁ n) = rw first.shows at (two.holds n inside₁ s m) in
+      rw (may_hold_all-++ os ps n (shown_at d n) (h n)) (may_hold_all_among ps n (block_after_all os n (shown_at d n)) (h₁ n) (may_hold_all os n (shown_at d n) (h n)) first.holds s i)
 
 -- an operation that names a block past the count changes nothing
 pub ran_past : (o : Op) (d : List Shown) (h : Held) → length d ≤ target o → Ran (o ∷ []) d h d h
 ran_past o d h past =
     record {
       shows = sym (set_past d (target o) (result o) past);
-      holds = λ n l s m. let ne : n ≡ target o → ⊥ = λ e. omega arith in subst (λ (x : List (List ℕ)). s ∈ x) (sym (cond-false (eqb n (target o)) (left_by o (shown_at d n) (h n)) (h n) (ne_eqb n (target o) ne))) m;
+      holds = λ n inside s m. let ne : n ≡ target o → ⊥ = λ e. omega arith in rw (elsewhere o n (left_by o (shown_at d n) (h n)) (h n) ne) m;
     }
