@@ -1,7 +1,7 @@
 -- Bytes written over others, seen byte by byte and in parts of 64.
-use Rattle.std.proofs.Common.{◌≡◌, ℕ, ◌+◌, ◌-◌, ◌<◌, ◌≤◌, List, ◌++◌, length, get_or, take, drop, set, replicate, sym, refl, ap, ◌∙◌, arith, rules}
+use Rattle.std.proofs.Common.{◌≡◌, ℕ, ◌+◌, ◌-◌, ◌<◌, ◌≤◌, List, ◌++◌, length, get_or, take, drop, set, sym, refl, ap, ◌∙◌, arith, rules}
 use borrow.Rule.Slice.PartMut.{put_mid}
-use Rattle.std.proofs.lemmas.List.{length-drop, length-replicate, take-take, drop-drop, drop_at, length-take-le, drop-append-le, take-append-le, drop-set-lt, drop-take, get_or-take}
+use Rattle.std.proofs.lemmas.List.{length-drop, take-take, drop-drop, drop_at, length-take-le, drop-append-le, take-append-le, drop-set-lt, drop-take, get_or-take}
 use Rattle.std.proofs.lemmas.Slice.{overwrites, drop-put_mid, take-put_mid_below}
 use Rattle.bottoms.specs.Images.{part, overwritten}
 
@@ -12,16 +12,6 @@ part_set m i v a h = ap (take 64) (drop-set-lt a m i v h)
 -- what the checker says of a slice that a part was lent from
 pub put_over : (a k : ℕ) (m ys : List ℕ) → length ys ≡ k → put_mid a k m ys ≡ overwritten a ys m
 put_over a k m ys e = ap (λ (z : List ℕ). take a m ++ (ys ++ z)) (drop-drop k a m ∙ ap (λ (i : ℕ). drop (a + i) m) (sym e))
-
--- the same, with the code's own terms for where and what was written
-pub put_is : (a a' k i n v v' : ℕ) (m ys s : List ℕ) → a ≡ a' → i ≡ n → v ≡ v' → ys ≡ s → length s ≡ k → put_mid a k (set m i v) ys ≡ overwritten a' s (set m n v')
-put_is a a' k i n v v' m ys s ea ei ev es len =
-    let e : put_mid a k (set m i v) ys ≡ overwritten a ys (set m i v) = put_over a k (set m i v) ys (ap length es ∙ len) in
-    cc
-
--- zeros, as many as there are bytes
-pub zeros_are : (xs : List ℕ) (l k : ℕ) → xs ≡ replicate l 0 → length xs ≡ k → xs ≡ replicate k 0
-zeros_are xs l k e len = e ∙ ap (λ (i : ℕ). replicate i 0) (sym (length-replicate l 0) ∙ sym (ap length e) ∙ len)
 
 -- a part of a part
 pub part_lent : (m : List ℕ) (a k b : ℕ) → b + 64 ≤ k → part (take k (drop a m)) b ≡ part m (a + b)

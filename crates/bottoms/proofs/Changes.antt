@@ -209,12 +209,12 @@ module _ (F : Format) (m m' : List ℕ) (n : ℕ) (o : Op) (to : target o ≡ n)
       (λ t. ran_past o (image_shown F m) (image_held F m) (omega (arith, ltb-false n (count F m) t, count_shown F m)))
 
 -- each call's image is what its operation makes of what is shown and held
-module _ (F : Format) (laws : Lawful F) (m : List ℕ) (n : ℕ) where
-  pub write_runs : (s : List ℕ) → length s ≡ 64 → Runs F (write n s ∷ []) m (write_image F m n s)
-  write_runs s len = if_runs F m _ n (write n s) refl (λ lt. runs_write F laws m n lt s len)
+module _ (F : Format) (laws : Lawful F) (m m' : List ℕ) (n : ℕ) where
+  pub write_runs : (s : List ℕ) → length s ≡ 64 → m' ≡ write_image F m n s → Runs F (write n s ∷ []) m m'
+  write_runs s len e = subst (Runs F (write n s ∷ []) m) (sym e) (if_runs F m _ n (write n s) refl (λ lt. runs_write F laws m n lt s len))
 
-  pub wipe_runs : Runs F (wipe n ∷ []) m (wipe_image F m n)
-  wipe_runs = if_runs F m _ n (wipe n) refl (runs_wipe F laws m n)
+  pub wipe_runs : m' ≡ wipe_image F m n → Runs F (wipe n ∷ []) m m'
+  wipe_runs e = subst (Runs F (wipe n ∷ []) m) (sym e) (if_runs F m _ n (wipe n) refl (runs_wipe F laws m n))
 
-  pub mark_runs : Runs F (lose n ∷ []) m (mark_image F m n)
-  mark_runs = if_runs F m _ n (lose n) refl (runs_mark F laws m n)
+  pub mark_runs : m' ≡ mark_image F m n → Runs F (lose n ∷ []) m m'
+  mark_runs e = subst (Runs F (lose n ∷ []) m) (sym e) (if_runs F m _ n (lose n) refl (runs_mark F laws m n))

@@ -1,9 +1,8 @@
 -- The sectors that an image holds for a block: those of its places that aren't shown and aren't blank.
-use Rattle.std.proofs.Common.{◌≡◌, ℕ, zero, suc, ◌+◌, ◌<◌, ◌≤◌, Bool, true, false, cond, not, ◌&&◌, eqb, ◌⊎◌, List, [], ◌∷◌, ◌++◌, map, length, Some, None, filter, Option, sym, refl, ap, ◌∙◌, subst, inl, inr, ⊎_elim, arith}
+use Rattle.std.proofs.Common.{◌≡◌, ℕ, zero, suc, ◌+◌, ◌<◌, ◌≤◌, Bool, true, false, cond, not, ◌&&◌, eqb, ◌⊎◌, List, [], ◌∷◌, map, Some, None, filter, Option, sym, refl, ap, ◌∙◌, subst, inl, inr, ⊎_elim, arith}
 use mathlib.Core.List.Memᴰ
 use Rattle.std.specs.List.{range_with_len}
-use Rattle.std.proofs.lemmas.List.FromFn.{get_or-map-range_with_len, filter_of_map_range_with_len_more}
-use Rattle.std.proofs.lemmas.List.{map-id, length-append}
+use Rattle.std.proofs.lemmas.List.FromFn.{get_or-map-range_with_len}
 use Rattle.std.proofs.lemmas.Bool.{cases_Bool, cases_lt, both_ways, cond-true, cond-false, and_parts, and_from, not-true, not-false, not_from_false, eqb-true}
 use Rattle.device.specs.Blocks.{Shown, lost, sector, shown_at, ◌∈◌, is_blank}
 use Rattle.device.specs.Operations.{joined}
@@ -72,14 +71,6 @@ kept_same f g p q (x ∷ xs) h =
     let rest : map f (filter p xs) ≡ map g (filter q xs) = kept_same f g p q xs (λ j i. h j (Memᴰ.tail i)) in
     ap (λ (b : Bool). map f (cond b (x ∷ filter p xs) (filter p xs))) here.1
     ∙ elim (q x) as (λ b. map f (cond b (x ∷ filter p xs) (filter p xs)) ≡ map g (cond b (x ∷ filter q xs) (filter q xs))) [ true ↦ ap (λ (y : List ℕ). y ∷ map f (filter p xs)) here.0 ∙ ap (λ (l : List (List ℕ)). g x ∷ l) rest | false ↦ rest ]
-
--- one number more
-pub length_kept_more : (p : ℕ → Bool) (j : ℕ) → length (filter p (range_with_len 0 (j + 1))) ≡ length (filter p (range_with_len 0 j)) + cond (p j) 1 0
-length_kept_more p j =
-    ap (λ (l : List ℕ). length (filter p l)) (sym (map-id (range_with_len 0 (j + 1))))
-    ∙ ap length (filter_of_map_range_with_len_more p (λ i. i) 0 j j (omega arith) ∙ ap (λ (l : List ℕ). filter p l ++ cond (p j) (j ∷ []) []) (map-id (range_with_len 0 j)))
-    ∙ length-append (filter p (range_with_len 0 j)) (cond (p j) (j ∷ []) [])
-    ∙ ap (λ (k : ℕ). length (filter p (range_with_len 0 j)) + k) (elim (p j) as (λ b. length (cond b (j ∷ []) []) ≡ cond b 1 0) [ true ↦ refl | false ↦ refl ])
 
 -- the sectors that are held among p places
 module _ (p : ℕ) where

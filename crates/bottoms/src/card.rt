@@ -3,12 +3,13 @@ ghost use Rattle.std.specs.Prelude.{◌≡◌, ◌≤◌, true, [], ◌∷◌, l
 ghost use Rattle.device.specs.Answers.{accepted, answer_of, of_block, change_answer, read_answer, read_buffer};
 ghost use Rattle.device.specs.Operations.{write, wipe, lose};
 ghost use Rattle.device.specs.declared.fault.DeviceFault.TheVariants.{NoBlock};
-ghost use Rattle.bottoms.specs.Images.{Located, image_shown, image_held, Runs, write_image, wipe_image, mark_image};
+ghost use Rattle.bottoms.specs.Images.{Located, Lent, image_shown, image_held, Runs, write_image, wipe_image, mark_image};
 ghost use Rattle.bottoms.specs.Named.{Named};
 ghost use Rattle.bottoms.specs.Opening.{opening, opening_of};
 
+use crate::block::Block;
 use crate::fault::Refused;
-use crate::image::{check_size, count_blocks, count_held, erase, fill, locate, read_shown};
+use crate::image::{check_size, count_blocks, erase, fill};
 use crate::placement::{InPlace, Placement, Rotation};
 use device::{Device, DeviceFault, Sector};
 
@@ -27,6 +28,7 @@ pub type Rotating<'a> = Card<'a, Rotation>;
 
 impl<'a, P: Placement> Card<'a, P> {
     // The card of so many blocks that these bytes are. Nothing is written, and refused memory is handed back.
+    #[tactic(auto, using(crate::proofs::Changes::count_shown, crate::proofs::Places::count_fits))]
     pub fn open(bytes: &'a mut [u8], count: u32) -> Result<Card<'a, P>, Refused<'a>>
         ensures answer { opening_of (λ d. d.bytes.now) result ≡ opening P.Placement.format bytes.old count }
         ensures blocks { IfOk result (λ d. length (image_shown P.Placement.format d.bytes.now) ≡ count) }
@@ -39,38 +41,37 @@ impl<'a, P: Placement> Card<'a, P> {
     }
 
     // Where block n lies: the index of its state, and the start of its first place.
+    #[tactic(auto, using(crate::proofs::Changes::count_shown, crate::proofs::Places::places_inside))]
     fn find(&self, n: u32) -> Result<(usize, usize), DeviceFault>
         ensures { MatchResult result (λ p. Located (length self.now.bytes.now) P.Placement.format.places n p.0 p.1) (λ f. (length (image_shown P.Placement.format self.now.bytes.now) ≤ n) × (f ≡ NoBlock n)) }
     {
-        locate(self.bytes.len(), self.placement.places(), n)
+        let count = self.count();
+        if n >= count {
+            return Err(DeviceFault::NoBlock(n));
+        }
+        let i = n as usize;
+        Ok((i, count as usize + 64 * (self.placement.places() * i)))
+    }
+
+    // The places of block n, and which of them is shown.
+    #[tactic(auto, using(crate::proofs::Changes::count_shown))]
+    fn block(&self, n: u32) -> Result<Block<'_>, DeviceFault>
+        ensures { MatchResult result (λ b. Lent P.Placement.format self.now.bytes.now n b.places.now b.shown) (λ f. (length (image_shown P.Placement.format self.now.bytes.now) ≤ n) × (f ≡ NoBlock n)) }
+    {
+        let (i, first) = self.find(n)?;
+        Ok(Block {
+            places: &self.bytes[first..first + 64 * self.placement.places()],
+            shown: self.placement.shown(self.bytes[i]),
+        })
     }
 
     // How many sectors that aren't blank the card keeps for block n beside the one shown. These and those shown are all that it keeps.
+    #[tactic(auto, using(crate::proofs::Changes::count_shown, crate::proofs::Named::image_named))]
     pub fn held_count(&self, n: u32) -> Result<usize, DeviceFault>
         ensures answer { answer_of result ≡ of_block (image_shown P.Placement.format self.now.bytes.now) n (accepted (length (image_held P.Placement.format self.now.bytes.now n))) }
         ensures named { Named P.Placement.format self.now.bytes.now }
     {
-        let (i, first) = self.find(n)?;
-        let places = self.placement.places();
-        Ok(count_held(
-            &self.bytes[first..first + 64 * places],
-            self.placement.shown(self.bytes[i]),
-        ))
-    }
-
-    // Fills the buffer with the sector that block n shows.
-    fn look(&self, n: u32, buf: &mut Sector) -> Result<(), DeviceFault>
-        ensures answer { answer_of result ≡ read_answer (image_shown P.Placement.format self.now.bytes.now) n }
-        ensures buffer { buf.new ≡ read_buffer (image_shown P.Placement.format self.now.bytes.now) n buf.old }
-    {
-        let (i, first) = self.find(n)?;
-        let places = self.placement.places();
-        read_shown(
-            &self.bytes[first..first + 64 * places],
-            self.placement.shown(self.bytes[i]),
-            n,
-            buf,
-        )
+        Ok(self.block(n)?.count_held())
     }
 }
 
@@ -81,6 +82,7 @@ impl<P: Placement> Device for Card<'_, P> {
 
     ghost settled = { λ _. true };
 
+    #[tactic(auto, using(crate::proofs::Changes::count_shown))]
     fn count(&self) -> u32
         ensures count { result ≡ length (image_shown P.Placement.format self.now.bytes.now) }
         ensures most { result ≤ 1024 }
@@ -95,9 +97,10 @@ impl<P: Placement> Device for Card<'_, P> {
         ensures effect { Runs P.Placement.format [] self.old.bytes.now self.new.bytes.now }
         ensures image { self.new.bytes.now ≡ self.old.bytes.now }
     {
-        self.look(n, buf)
+        self.block(n)?.read(n, buf)
     }
 
+    #[tactic(auto, using(crate::proofs::Changes::count_shown))]
     fn write(&mut self, n: u32, s: &Sector) -> Result<(), DeviceFault>
         ensures answer { answer_of result ≡ change_answer (image_shown P.Placement.format self.old.bytes.now) n }
         ensures effect { Runs P.Placement.format (write n s.now ∷ []) self.old.bytes.now self.new.bytes.now }
@@ -112,6 +115,7 @@ impl<P: Placement> Device for Card<'_, P> {
         Ok(())
     }
 
+    #[tactic(auto, using(crate::proofs::Changes::count_shown))]
     fn wipe(&mut self, n: u32) -> Result<(), DeviceFault>
         ensures answer { answer_of result ≡ change_answer (image_shown P.Placement.format self.old.bytes.now) n }
         ensures effect { Runs P.Placement.format (wipe n ∷ []) self.old.bytes.now self.new.bytes.now }
@@ -124,6 +128,7 @@ impl<P: Placement> Device for Card<'_, P> {
         Ok(())
     }
 
+    #[tactic(auto, using(crate::proofs::Changes::count_shown))]
     fn mark(&mut self, n: u32) -> Result<(), DeviceFault>
         ensures answer { answer_of result ≡ change_answer (image_shown P.Placement.format self.old.bytes.now) n }
         ensures effect { Runs P.Placement.format (lose n ∷ []) self.old.bytes.now self.new.bytes.now }
