@@ -17,12 +17,21 @@ pub(crate) struct Block<'a> {
 }
 
 impl Block<'_> {
+    // The bytes of place j.
+    fn place(&self, j: usize) -> &[u8]
+        requires { 64 * j + 64 ≤ length self.now.places.now }
+        ensures bytes { result.now ≡ place_in self.now.places.now j }
+        ensures long { length result.now ≡ 64 }
+    {
+        &self.places[64 * j..64 * j + 64]
+    }
+
     // Whether place j counts as held: it isn't shown, and it isn't blank.
     fn is_held(&self, j: usize) -> bool
         requires { 64 * j + 64 ≤ length self.now.places.now }
         ensures { result ≡ is_held (place_in self.now.places.now) self.now.shown j }
     {
-        self.shown != Some(j) && !is_blank(&self.places[64 * j..64 * j + 64])
+        self.shown != Some(j) && !is_blank(self.place(j))
     }
 
     // How many places hold a sector that isn't blank, beside the one shown.
@@ -40,7 +49,7 @@ impl Block<'_> {
         ensures buffer { buf.new ≡ filled (showing (place_in self.now.places.now) self.now.shown) buf.old }
     {
         let j = self.shown.ok_or(DeviceFault::Lost(n))?;
-        buf.copy_from_slice(&self.places[64 * j..64 * j + 64]);
+        buf.copy_from_slice(self.place(j));
         Ok(())
     }
 }
