@@ -1,9 +1,10 @@
--- The places of a block, seen alone: they show and hold what the image does for the block.
+-- The places of a block, seen alone: they show what the image shows for it, and hold as many sectors.
 use Rattle.std.proofs.Common.{◌≡◌, ℕ, ◌*◌, ◌/◌, ◌<◌, ◌≤◌, List, map, length, take, drop, filter, Option, sym, ap, ◌∙◌, arith}
 use Rattle.std.specs.List.{range_with_len}
-use Rattle.std.proofs.lemmas.List.{length-take-le, length-drop}
+use Rattle.std.proofs.lemmas.List.{length-take-le, length-drop, length-map}
+use Rattle.std.proofs.lemmas.List.Sums.{length-filter}
 use Rattle.bottoms.specs.Formats.{Format, Lawful}
-use Rattle.bottoms.specs.Images.{Located, Lent, state, place, place_in, showing, block, is_held, held_in, image_held}
+use Rattle.bottoms.specs.Images.{Located, Lent, state, place, place_in, showing, block, is_held, count_in, image_held}
 use Rattle.bottoms.proofs.Bytes.{part_lent}
 use Rattle.bottoms.proofs.Changes.{count_shown, showing_same}
 use Rattle.bottoms.proofs.Named.{held_same, shown_block}
@@ -29,11 +30,13 @@ module _ (F : Format) (laws : Lawful F) (m : List ℕ) (n i a k : ℕ) (o : Opti
       let room : k ≤ length (drop a m) = simp length-drop (omega (arith, found.inside)) in
       omega (arith, length-take-le k (drop a m) room)
 
-  same_held : held_in lent o ≡ image_held F m n
+  same_held : count_in lent o ≡ length (image_held F m n)
   same_held =
-      ap (λ (q : ℕ). map (place_in lent) (filter (is_held (place_in lent) o) (range_with_len 0 q))) long
-      ∙ held_same F.places (place_in lent) (place F m n) o same_place
-      ∙ ap (λ (x : Option ℕ). map (place F m n) (filter (is_held (place F m n) x) (range_with_len 0 F.places))) says_here
+      sym (length-filter (is_held (place_in lent) o) (range_with_len 0 (length lent / 64)))
+      ∙ sym (length-map (filter (is_held (place_in lent) o) (range_with_len 0 (length lent / 64))) (place_in lent))
+      ∙ ap (λ (q : ℕ). length (map (place_in lent) (filter (is_held (place_in lent) o) (range_with_len 0 q)))) long
+      ∙ ap length (held_same F.places (place_in lent) (place F m n) o same_place)
+      ∙ ap (λ (x : Option ℕ). length (map (place F m n) (filter (is_held (place F m n) x) (range_with_len 0 F.places)))) says_here
 
   pub lent_is : Lent F m n lent o
   lent_is =

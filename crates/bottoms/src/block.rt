@@ -1,10 +1,9 @@
 // The places of one block, lent for reading.
-ghost use Rattle.std.specs.Prelude.{◌≡◌, ◌+◌, ◌*◌, ◌/◌, ◌≤◌, length, filter};
+ghost use Rattle.std.specs.Prelude.{◌≡◌, ◌+◌, ◌*◌, ◌≤◌, length};
 ghost use Rattle.std.specs.Option.{ForSome};
-ghost use Rattle.std.specs.List.{range_with_len};
 ghost use Rattle.device.specs.Blocks.{is_blank};
 ghost use Rattle.device.specs.Answers.{answer_of, read_block, filled};
-ghost use Rattle.bottoms.specs.Images.{place_in, showing, is_held};
+ghost use Rattle.bottoms.specs.Images.{place_in, showing, is_held, count_in};
 
 use device::{DeviceFault, Sector};
 
@@ -36,7 +35,7 @@ impl Block<'_> {
 
     // How many places hold a sector that isn't blank, beside the one shown.
     pub(crate) fn count_held(&self) -> usize
-        ensures { result ≡ length (filter (is_held (place_in self.now.places.now) self.now.shown) (range_with_len 0 (length self.now.places.now / 64))) }
+        ensures { result ≡ count_in self.now.places.now self.now.shown }
     {
         (0..self.places.len() / 64)
             .filter(|&j| self.is_held(j))
