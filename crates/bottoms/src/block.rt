@@ -1,7 +1,7 @@
 // The places of one block, lent for reading.
-ghost use Rattle.std.specs.Prelude.{◌≡◌, ◌+◌, ◌*◌, ◌≤◌, length};
+ghost use Rattle.std.specs.Prelude.{◌≡◌, ◌+◌, ◌*◌, ◌≤◌, length, ◌==◌};
 ghost use Rattle.std.specs.Option.{ForSome};
-ghost use Rattle.device.specs.Blocks.{is_blank};
+ghost use Rattle.std.specs.List.{list_all};
 ghost use Rattle.device.specs.Answers.{answer_of, read_block, filled};
 ghost use Rattle.bottoms.specs.Images.{place_in, showing, is_held, count_in};
 
@@ -26,6 +26,7 @@ impl Block<'_> {
     }
 
     // Whether place j counts as held: it isn't shown, and it isn't blank.
+    #[tactic(auto, using(crate::proofs::Bytes::blank_is_all))]
     fn is_held(&self, j: usize) -> bool
         requires { 64 * j + 64 ≤ length self.now.places.now }
         ensures { result ≡ is_held (place_in self.now.places.now) self.now.shown j }
@@ -55,7 +56,7 @@ impl Block<'_> {
 
 // Whether every byte is zero.
 fn is_blank(place: &[u8]) -> bool
-    ensures { result ≡ is_blank place.now }
+    ensures { result ≡ list_all (λ b. b == 0) place.now }
 {
     place.iter().all(|&b| b == 0)
 }
