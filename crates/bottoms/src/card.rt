@@ -26,9 +26,9 @@ pub type Plain<'a> = Card<'a, InPlace>;
 // The card that writes each time to the next of a block's four places.
 pub type Rotating<'a> = Card<'a, Rotation>;
 
+#[tactic(auto, using(crate::proofs::Changes::count_shown, crate::proofs::Places::count_fits, crate::proofs::Places::places_inside, crate::proofs::Named::image_named))]
 impl<'a, P: Placement> Card<'a, P> {
     // The card of so many blocks that these bytes are. Nothing is written, and refused memory is handed back.
-    #[tactic(auto, using(crate::proofs::Changes::count_shown, crate::proofs::Places::count_fits))]
     pub fn open(bytes: &'a mut [u8], count: u32) -> Result<Card<'a, P>, Refused<'a>>
         ensures answer { opening_of (λ d. d.bytes.now) result ≡ opening P.Placement.format bytes.old count }
         ensures blocks { IfOk result (λ d. length (image_shown P.Placement.format d.bytes.now) ≡ count) }
@@ -41,7 +41,6 @@ impl<'a, P: Placement> Card<'a, P> {
     }
 
     // Where block n lies: the index of its state, and the start of its first place.
-    #[tactic(auto, using(crate::proofs::Changes::count_shown, crate::proofs::Places::places_inside))]
     fn find(&self, n: u32) -> Result<(usize, usize), DeviceFault>
         ensures { MatchResult result (λ p. Located (length self.now.bytes.now) P.Placement.format.places n p.0 p.1) (λ f. (length (image_shown P.Placement.format self.now.bytes.now) ≤ n) × (f ≡ NoBlock n)) }
     {
@@ -54,7 +53,6 @@ impl<'a, P: Placement> Card<'a, P> {
     }
 
     // The places of block n, and which of them is shown.
-    #[tactic(auto, using(crate::proofs::Changes::count_shown))]
     fn block(&self, n: u32) -> Result<Block<'_>, DeviceFault>
         ensures { MatchResult result (λ b. Lent P.Placement.format self.now.bytes.now n b.places.now b.shown) (λ f. (length (image_shown P.Placement.format self.now.bytes.now) ≤ n) × (f ≡ NoBlock n)) }
     {
@@ -66,7 +64,6 @@ impl<'a, P: Placement> Card<'a, P> {
     }
 
     // How many sectors that aren't blank the card keeps for block n beside the one shown. These and those shown are all that it keeps.
-    #[tactic(auto, using(crate::proofs::Changes::count_shown, crate::proofs::Named::image_named))]
     pub fn held_count(&self, n: u32) -> Result<usize, DeviceFault>
         ensures answer { answer_of result ≡ of_block (image_shown P.Placement.format self.now.bytes.now) n (accepted (length (image_held P.Placement.format self.now.bytes.now n))) }
         ensures named { Named P.Placement.format self.now.bytes.now }
@@ -75,6 +72,7 @@ impl<'a, P: Placement> Card<'a, P> {
     }
 }
 
+#[tactic(auto, using(crate::proofs::Changes::count_shown))]
 impl<P: Placement> Device for Card<'_, P> {
     ghost shown = { λ d. image_shown P.Placement.format d.bytes.now };
 
@@ -82,7 +80,6 @@ impl<P: Placement> Device for Card<'_, P> {
 
     ghost settled = { λ _. true };
 
-    #[tactic(auto, using(crate::proofs::Changes::count_shown))]
     fn count(&self) -> u32
         ensures count { result ≡ length (image_shown P.Placement.format self.now.bytes.now) }
         ensures most { result ≤ 1024 }
@@ -100,7 +97,6 @@ impl<P: Placement> Device for Card<'_, P> {
         self.block(n)?.read(n, buf)
     }
 
-    #[tactic(auto, using(crate::proofs::Changes::count_shown))]
     fn write(&mut self, n: u32, s: &Sector) -> Result<(), DeviceFault>
         ensures answer { answer_of result ≡ change_answer (image_shown P.Placement.format self.old.bytes.now) n }
         ensures effect { Runs P.Placement.format (write n s.now ∷ []) self.old.bytes.now self.new.bytes.now }
@@ -115,7 +111,6 @@ impl<P: Placement> Device for Card<'_, P> {
         Ok(())
     }
 
-    #[tactic(auto, using(crate::proofs::Changes::count_shown))]
     fn wipe(&mut self, n: u32) -> Result<(), DeviceFault>
         ensures answer { answer_of result ≡ change_answer (image_shown P.Placement.format self.old.bytes.now) n }
         ensures effect { Runs P.Placement.format (wipe n ∷ []) self.old.bytes.now self.new.bytes.now }
@@ -128,7 +123,6 @@ impl<P: Placement> Device for Card<'_, P> {
         Ok(())
     }
 
-    #[tactic(auto, using(crate::proofs::Changes::count_shown))]
     fn mark(&mut self, n: u32) -> Result<(), DeviceFault>
         ensures answer { answer_of result ≡ change_answer (image_shown P.Placement.format self.old.bytes.now) n }
         ensures effect { Runs P.Placement.format (lose n ∷ []) self.old.bytes.now self.new.bytes.now }
