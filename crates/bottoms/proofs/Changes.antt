@@ -1,6 +1,7 @@
 -- What write, wipe and mark make of an image: one block changes, and what is held for it is what the operation lets it hold.
-use Rattle.std.proofs.Common.{◌≡◌, ℕ, ◌+◌, ◌-◌, ◌*◌, ◌<◌, ◌≤◌, true, eqb, ltb, ◌⊎◌, List, [], ◌∷◌, map, length, get_or, take, set, replicate, Some, None, filter, Option, sym, refl, ap, ◌∙◌, subst, inl, inr, ⊎_elim, arith}
+use Rattle.std.proofs.Common.{◌≡◌, ℕ, ◌+◌, ◌-◌, ◌*◌, ◌<◌, ◌≤◌, true, eqb, ltb, ◌⊎◌, List, [], ◌∷◌, map, length, take, set, replicate, Some, None, filter, Option, sym, refl, ap, ◌∙◌, subst, inl, inr, ⊎_elim, arith}
 use Rattle.std.specs.List.{range_with_len}
+use Rattle.std.proofs.lemmas.Grind.{common_steps}
 use Rattle.std.proofs.lemmas.List.FromFn.{length-map-range_with_len, get_or-map-range_with_len}
 use Rattle.std.proofs.lemmas.List.{same_lists, length-set, get_or-set_same, get_or-set_other, length-replicate, drop-replicate, take-replicate, take_all}
 use Rattle.std.proofs.lemmas.Bool.{cases_eq, cases_lt, cond-true, cond-false, cond_both, both_ways, eq-eqb, ne_eqb, ltb-true, ltb-false, not-true}
@@ -19,18 +20,7 @@ count_shown F m = length-map-range_with_len (block F m) 0 (count F m)
 
 -- a list made from a function, and one that differs from it at n alone
 one_changed : {X : Type 0} (f g : ℕ → X) (c n : ℕ) → ((k : ℕ) → k < c → (k ≡ n → ⊥) → g k ≡ f k) → map g (range_with_len 0 c) ≡ set (map f (range_with_len 0 c)) n (g n)
-one_changed {X} f g c n others = same_lists _ _ (lens ∙ sym (length-set _ n (g n))) each where
-  lens : length (map g (range_with_len 0 c)) ≡ length (map f (range_with_len 0 c))
-  lens = length-map-range_with_len g 0 c ∙ sym (length-map-range_with_len f 0 c)
-
-  each : (k : ℕ) (d : X) → k < length (map g (range_with_len 0 c)) → get_or (map g (range_with_len 0 c)) k d ≡ get_or (set (map f (range_with_len 0 c)) n (g n)) k d
-  each k d h =
-      let low : k < c = omega (arith, length-map-range_with_len g 0 c) in
-      let left = get_or-map-range_with_len g 0 c k k d low (omega arith) in
-      ⊎_elim
-      (λ e. let q : n < length (map f (range_with_len 0 c)) = omega (arith, length-map-range_with_len f 0 c) in left ∙ ap g e ∙ sym (rw e (get_or-set_same (map f (range_with_len 0 c)) n (g n) d q)))
-      (λ ne. left ∙ others k low ne ∙ sym (get_or-set_other (map f (range_with_len 0 c)) n k (g n) d ne ∙ get_or-map-range_with_len f 0 c k k d low (omega arith)))
-      (cases_eq k n)
+one_changed {X} f g c n others = same_lists _ _ (grind (arith, length-map-range_with_len, length-set {A = X})) (λ k d h. grind (arith, common_steps, length-map-range_with_len, get_or-map-range_with_len, get_or-set_same, get_or-set_other))
 
 pub showing_same : (at at' : ℕ → List ℕ) (o : Option ℕ) → ((j : ℕ) → o ≡ Some j → at j ≡ at' j) → showing at o ≡ showing at' o
 showing_same at at' None h = refl
