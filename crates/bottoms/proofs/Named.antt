@@ -1,12 +1,13 @@
 -- The sectors that an image holds for a block: those of its places that aren't shown and aren't blank.
-use Rattle.std.proofs.Common.{◌≡◌, ℕ, zero, suc, ◌+◌, ◌<◌, ◌≤◌, Bool, true, false, cond, not, ◌⊎◌, List, [], ◌∷◌, map, Some, None, filter, Option, sym, refl, ap, ◌∙◌, subst, inl, inr, ⊎_elim, arith}
+use Rattle.std.proofs.Common.{◌≡◌, ℕ, zero, suc, ◌+◌, ◌<◌, ◌≤◌, Bool, true, false, cond, not, ◌⊎◌, List, [], ◌∷◌, map, Some, None, filter, Option, sym, refl, ap, ◌∙◌, inl, inr, ⊎_elim, arith}
 use mathlib.Core.List.Memᴰ
 use Rattle.std.specs.List.{range_with_len}
 use Rattle.std.proofs.lemmas.List.FromFn.{get_or-map-range_with_len}
 use Rattle.std.proofs.lemmas.Bool.Decides.{nat_tests}
-use Rattle.std.proofs.lemmas.Bool.{cases_Bool, cases_lt, cond-false, and_parts, not-true}
-use Rattle.device.specs.Blocks.{Shown, lost, sector, shown_at, ◌∈◌, is_blank}
+use Rattle.std.proofs.lemmas.Bool.{cases_Bool, cases_lt, and_parts, not-true}
+use Rattle.device.specs.Blocks.{lost, sector, shown_at, ◌∈◌, is_blank}
 use Rattle.device.specs.Operations.{joined}
+use Rattle.device.proofs.Operations.{to_joined, kept_joined}
 use Rattle.bottoms.specs.Formats.{Format}
 use Rattle.bottoms.specs.Images.{count, state, place, showing, block, image_shown, hidden, is_held, image_held}
 use Rattle.bottoms.specs.Named.{Named}
@@ -80,14 +81,9 @@ module _ (F : Format) (m : List ℕ) (n : ℕ) where
   pub place_joined : (j : ℕ) (s : List ℕ) → j < F.places → s ≡ place F m n j → is_blank s ≡ false → s ∈ joined (block F m n) (image_held F m n)
   place_joined j s low e b =
       ⊎_elim
-      (λ (q : block F m n ≡ sector (place F m n j)).
-      subst (λ (c : Shown). s ∈ joined c (image_held F m n)) (sym q)
-      (subst (λ (l : List (List ℕ)). s ∈ l) (sym (cond-false (is_blank (place F m n j)) (image_held F m n) (place F m n j ∷ image_held F m n) (ap is_blank (sym e) ∙ b))) (Memᴰ.head e)))
-      (λ (i : place F m n j ∈ image_held F m n). joined_in (block F m n) (image_held F m n) s (subst (λ (x : List ℕ). x ∈ image_held F m n) (sym e) i))
-      (place_named j low (ap is_blank (sym e) ∙ b)) where
-        joined_in : (c : Shown) (kept : List (List ℕ)) (x : List ℕ) → x ∈ kept → x ∈ joined c kept
-        joined_in lost kept x i = i
-        joined_in (sector y) kept x i = elim (is_blank y) as (λ t. x ∈ cond t kept (y ∷ kept)) [ true ↦ i | false ↦ Memᴰ.tail i ]
+      (λ (q : block F m n ≡ sector (place F m n j)). to_joined (block F m n) (image_held F m n) s (q ∙ ap sector (sym e)) b)
+      (λ (i : place F m n j ∈ image_held F m n). kept_joined (block F m n) (image_held F m n) s (Memᴰ.cast e i))
+      (place_named j low (ap is_blank (sym e) ∙ b))
 
 pub shown_block : (F : Format) (m : List ℕ) (n : ℕ) → n < count F m → shown_at (image_shown F m) n ≡ block F m n
 shown_block F m n h = get_or-map-range_with_len (block F m) 0 (count F m) n n lost h (omega arith)
