@@ -41,6 +41,7 @@ impl<'a, P: Placement> Card<'a, P> {
     }
 
     // Where block n lies: the index of its state, and the start of its first place.
+    // It asks `count` and not `check_block`, which takes the card as a device, whose methods call this one: the check refuses that cycle.
     fn find(&self, n: u32) -> Result<(usize, usize), DeviceFault>
         ensures { MatchResult result (λ p. Located (length self.now.bytes.now) P.Placement.format.places n p.0 p.1) (λ f. (length (image_shown P.Placement.format self.now.bytes.now) ≤ n) × (f ≡ NoBlock n)) }
     {
