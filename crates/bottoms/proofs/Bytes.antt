@@ -1,8 +1,12 @@
 -- Bytes written over others, seen byte by byte and in parts of 64.
-use Rattle.std.proofs.Common.{◌≡◌, ℕ, ◌+◌, ◌-◌, ◌<◌, ◌≤◌, List, ◌++◌, length, get_or, take, drop, set, replicate, sym, refl, ap, ◌∙◌, arith, rules}
+use Rattle.std.proofs.Common.{◌≡◌, eqb, ◌&&◌, ℕ, ◌+◌, ◌-◌, ◌<◌, ◌≤◌, List, ◌++◌, length, get_or, take, drop, set, sym, refl, ap, ◌∙◌, arith}
+use Rattle.std.specs.List.{list_all}
+use Rattle.std.proofs.lemmas.List.Recursion.{same_from_clauses}
+use Rattle.device.specs.Blocks.{is_blank}
+use Rattle.std.proofs.lemmas.Grind.{common_steps}
 use borrow.Rule.Slice.PartMut.{put_mid}
-use Rattle.std.proofs.lemmas.List.{length-drop, length-replicate, take-take, drop-drop, drop_at, length-take-le, drop-append-le, take-append-le, drop-set-lt, drop-take, get_or-take}
-use Rattle.std.proofs.lemmas.Slice.{overwrites, drop-put_mid, take-put_mid_below}
+use Rattle.std.proofs.lemmas.List.{length-drop, take-take, drop-drop, drop_at, length-take-le, drop-append-le, take-append-le, drop-set-lt, drop-take}
+use Rattle.std.proofs.lemmas.Slice.{drop-put_mid, take-put_mid_below}
 use Rattle.bottoms.specs.Images.{part, overwritten}
 
 -- a part past the byte that was set
@@ -13,23 +17,9 @@ part_set m i v a h = ap (take 64) (drop-set-lt a m i v h)
 pub put_over : (a k : ℕ) (m ys : List ℕ) → length ys ≡ k → put_mid a k m ys ≡ overwritten a ys m
 put_over a k m ys e = ap (λ (z : List ℕ). take a m ++ (ys ++ z)) (drop-drop k a m ∙ ap (λ (i : ℕ). drop (a + i) m) (sym e))
 
--- the same, with the code's own terms for where and what was written
-pub put_is : (a a' k i n v v' : ℕ) (m ys s : List ℕ) → a ≡ a' → i ≡ n → v ≡ v' → ys ≡ s → length s ≡ k → put_mid a k (set m i v) ys ≡ overwritten a' s (set m n v')
-put_is a a' k i n v v' m ys s ea ei ev es len =
-    let e : put_mid a k (set m i v) ys ≡ overwritten a ys (set m i v) = put_over a k (set m i v) ys (ap length es ∙ len) in
-    cc
-
--- zeros, as many as there are bytes
-pub zeros_are : (xs : List ℕ) (l k : ℕ) → xs ≡ replicate l 0 → length xs ≡ k → xs ≡ replicate k 0
-zeros_are xs l k e len = e ∙ ap (λ (i : ℕ). replicate i 0) (sym (length-replicate l 0) ∙ sym (ap length e) ∙ len)
-
 -- a part of a part
 pub part_lent : (m : List ℕ) (a k b : ℕ) → b + 64 ≤ k → part (take k (drop a m)) b ≡ part m (a + b)
-part_lent m a k b h =
-    let e : k ≡ b + (k - b) = omega arith in
-    let wide : 64 ≤ k - b = omega arith in
-    ap (λ (i : ℕ). take 64 (drop b (take i (drop a m)))) e
-    ∙ ap (take 64) (drop-take b (k - b) (drop a m)) ∙ take-take 64 (k - b) (drop b (drop a m)) wide ∙ ap (take 64) (drop-drop b a m)
+part_lent m a k b h = grind (arith, drop-take b (k - b) (drop a m), take-take 64 (k - b) (drop b (drop a m)), drop-drop b a m)
 
 module _ (a : ℕ) (ys m : List ℕ) (room : a + length ys ≤ length m) where
   start : a ≤ length m
@@ -39,13 +29,10 @@ module _ (a : ℕ) (ys m : List ℕ) (room : a + length ys ≤ length m) where
   as_put = sym (put_over a (length ys) m ys refl)
 
   pub length_over : length (overwritten a ys m) ≡ length m
-  length_over = ap length as_put ∙ (search (rules, overwrites))
+  length_over = grind (arith, common_steps)
 
   pub byte_over_before : (i : ℕ) → i < a → get_or (overwritten a ys m) i 0 ≡ get_or m i 0
-  byte_over_before i h =
-      let le : a ≤ a = omega arith in
-      ap (λ (l : List ℕ). get_or l i 0) as_put
-      ∙ sym (get_or-take a (put_mid a (length ys) m ys) i 0 h) ∙ ap (λ (l : List ℕ). get_or l i 0) (take-put_mid_below a (length ys) m ys a le start) ∙ get_or-take a m i 0 h
+  byte_over_before i h = grind (arith, common_steps)
 
   pub part_over_before : (b : ℕ) → b + 64 ≤ a → part (overwritten a ys m) b ≡ part m b
   part_over_before b h =
@@ -62,3 +49,7 @@ module _ (a : ℕ) (ys m : List ℕ) (room : a + length ys ≤ length m) where
       let rest : List ℕ = drop (a + length ys) m in
       ap (take 64) (sym (drop-drop b a (overwritten a ys m)) ∙ ap (drop b) (drop_at (take a m) (ys ++ rest) a (length-take-le a m start)) ∙ drop-append-le b ys rest le)
       ∙ take-append-le 64 (drop b ys) rest wide
+
+-- the test of every byte in turn
+pub blank_is_all : (xs : List ℕ) → is_blank xs ≡ list_all (λ b. eqb b 0) xs
+blank_is_all xs = same_from_clauses is_blank (list_all (λ b. eqb b 0)) (λ b r. eqb b 0 && r) refl (λ _ _. refl) (λ _ _. refl) xs

@@ -1,12 +1,12 @@
 -- What write, wipe and mark make of an image: one block changes, and what is held for it is what the operation lets it hold.
-use Rattle.std.proofs.Common.{◌≡◌, ℕ, ◌+◌, ◌-◌, ◌*◌, ◌<◌, ◌≤◌, true, eqb, ltb, ◌⊎◌, List, [], ◌∷◌, map, length, get_or, take, set, replicate, Some, None, filter, Option, sym, refl, ap, ◌∙◌, subst, inl, inr, ⊎_elim, arith}
+use Rattle.std.proofs.Common.{◌≡◌, ℕ, ◌+◌, ◌-◌, ◌*◌, ◌<◌, ◌≤◌, true, eqb, ltb, ◌⊎◌, List, [], ◌∷◌, map, length, take, set, replicate, Some, None, filter, Option, sym, refl, ap, ◌∙◌, subst, inl, inr, ⊎_elim, arith}
 use Rattle.std.specs.List.{range_with_len}
-use Rattle.std.proofs.lemmas.List.FromFn.{length-map-range_with_len, get_or-map-range_with_len}
-use Rattle.std.proofs.lemmas.List.{same_lists, length-set, get_or-set_same, get_or-set_other, length-replicate, drop-replicate, take-replicate, take_all}
-use Rattle.std.proofs.lemmas.Bool.{cases_eq, cases_lt, cond-true, cond-false, cond_both, both_ways, eq-eqb, ne_eqb, ltb-true, ltb-false, not-true}
-use Rattle.device.specs.Blocks.{Shown, sector, shown_at, ◌∈◌, blank, is_blank}
-use Rattle.device.specs.Operations.{Op, write, wipe, lose, target, result, left_by, may_hold}
-use Rattle.device.proofs.Operations.{ran_past}
+use Rattle.std.proofs.lemmas.List.FromFn.{length-map-range_with_len}
+use Rattle.std.proofs.lemmas.List.{length-set, get_or-set_same, get_or-set_other, length-replicate, drop-replicate, take-replicate, take_all}
+use Rattle.std.proofs.lemmas.Bool.{cases_eq, cases_lt, cond_both, both_ways, eq-eqb, ltb-true, ltb-false, not-true}
+use Rattle.device.specs.Blocks.{sector, shown_at, ◌∈◌, blank, is_blank}
+use Rattle.device.specs.Operations.{Op, write, wipe, lose, target, result, left_by}
+use Rattle.device.proofs.Operations.{Among, BlockRan, block_here, block_elsewhere, ran_by_block, ran_past}
 use Rattle.bottoms.specs.Formats.{Format, Lawful}
 use Rattle.bottoms.specs.Images.{count, state, part, place_at, place, showing, block, image_shown, hidden, is_held, image_held, overwritten, if_block, write_image, wipe_image, mark_image, Runs}
 use Rattle.bottoms.proofs.Bytes.{part_set, length_over, byte_over_before, part_over_before, part_over_after, part_over_inside}
@@ -17,60 +17,45 @@ use Rattle.bottoms.proofs.Places.{count_same, places_before, places_inside}
 pub count_shown : (F : Format) (m : List ℕ) → length (image_shown F m) ≡ count F m
 count_shown F m = length-map-range_with_len (block F m) 0 (count F m)
 
--- a list made from a function, and one that differs from it at n alone
-one_changed : {X : Type 0} (f g : ℕ → X) (c n : ℕ) → ((k : ℕ) → k < c → (k ≡ n → ⊥) → g k ≡ f k) → map g (range_with_len 0 c) ≡ set (map f (range_with_len 0 c)) n (g n)
-one_changed {X} f g c n others = same_lists _ _ (lens ∙ sym (length-set _ n (g n))) each where
-  lens : length (map g (range_with_len 0 c)) ≡ length (map f (range_with_len 0 c))
-  lens = length-map-range_with_len g 0 c ∙ sym (length-map-range_with_len f 0 c)
-
-  each : (k : ℕ) (d : X) → k < length (map g (range_with_len 0 c)) → get_or (map g (range_with_len 0 c)) k d ≡ get_or (set (map f (range_with_len 0 c)) n (g n)) k d
-  each k d h =
-      let low : k < c = omega (arith, length-map-range_with_len g 0 c) in
-      let left = get_or-map-range_with_len g 0 c k k d low (omega arith) in
-      ⊎_elim
-      (λ e. let q : n < length (map f (range_with_len 0 c)) = omega (arith, length-map-range_with_len f 0 c) in left ∙ ap g e ∙ sym (rw e (get_or-set_same (map f (range_with_len 0 c)) n (g n) d q)))
-      (λ ne. left ∙ others k low ne ∙ sym (get_or-set_other (map f (range_with_len 0 c)) n k (g n) d ne ∙ get_or-map-range_with_len f 0 c k k d low (omega arith)))
-      (cases_eq k n)
-
 pub showing_same : (at at' : ℕ → List ℕ) (o : Option ℕ) → ((j : ℕ) → o ≡ Some j → at j ≡ at' j) → showing at o ≡ showing at' o
 showing_same at at' None h = refl
 showing_same at at' (Some j) h = ap sector (h j refl)
 
--- m' is m but for block n
-module _ (F : Format) (laws : Lawful F) (m m' : List ℕ) (n : ℕ) (len : length m' ≡ length m)
-    (states : (k : ℕ) → k < count F m → (k ≡ n → ⊥) → state m' k ≡ state m k)
-    (places : (k j : ℕ) → k < count F m → (k ≡ n → ⊥) → j < F.places → place F m' k j ≡ place F m k j) where
-  block_there : (k : ℕ) → k < count F m → (k ≡ n → ⊥) → block F m' k ≡ block F m k
+-- m' is m but for the block that an operation names
+module _ (F : Format) (laws : Lawful F) (m m' : List ℕ) (o : Op) (len : length m' ≡ length m)
+    (states : (k : ℕ) → k < count F m → (k ≡ target o → ⊥) → state m' k ≡ state m k)
+    (places : (k j : ℕ) → k < count F m → (k ≡ target o → ⊥) → j < F.places → place F m' k j ≡ place F m k j) where
+  block_there : (k : ℕ) → k < count F m → (k ≡ target o → ⊥) → block F m' k ≡ block F m k
   block_there k h ne =
       ap (λ (s : ℕ). showing (place F m' k) (F.shows s)) (states k h ne)
       ∙ showing_same (place F m' k) (place F m k) (F.shows (state m k)) (λ j e. places k j h ne (laws.shows_below (state m k) j e))
 
-  held_there : (k : ℕ) → k < count F m → (k ≡ n → ⊥) → image_held F m' k ≡ image_held F m k
+  held_there : (k : ℕ) → k < count F m → (k ≡ target o → ⊥) → image_held F m' k ≡ image_held F m k
   held_there k h ne =
       ap (λ (s : ℕ). map (place F m' k) (filter (is_held (place F m' k) (F.shows s)) (range_with_len 0 F.places))) (states k h ne)
       ∙ held_same F.places (place F m' k) (place F m k) (F.shows (state m k)) (λ j low. places k j h ne low)
 
-  -- the operation that block n went through
-  runs_op : (o : Op) → target o ≡ n → block F m' n ≡ result o → ((s : List ℕ) → s ∈ image_held F m' n → s ∈ left_by o (block F m n) (image_held F m n)) → Runs F (o ∷ []) m m'
-  runs_op o to here kept = record { shows = shows; holds = holds } where
-    shows : image_shown F m' ≡ set (image_shown F m) (target o) (result o)
-    shows =
-        ap (λ (c : ℕ). map (block F m') (range_with_len 0 c)) (count_same F m m' len)
-        ∙ one_changed (block F m) (block F m') (count F m) n block_there
-        ∙ ap (set (image_shown F m) n) here ∙ ap (λ (k : ℕ). set (image_shown F m) k (result o)) (sym to)
+  abbrev Went : ℕ → Type 0
+  Went k = BlockRan (o ∷ []) k (block F m k) (image_held F m k) (block F m' k) (image_held F m' k)
 
-    holds : (k : ℕ) → k < length (image_shown F m) → (s : List ℕ) → s ∈ image_held F m' k → s ∈ may_hold o k (shown_at (image_shown F m) k) (image_held F m k)
-    holds k h s i =
-        let low : k < count F m = omega (arith, count_shown F m) in
+  -- the operation that the block went through
+  runs_op : block F m' (target o) ≡ result o → Among (image_held F m' (target o)) (left_by o (block F m (target o)) (image_held F m (target o))) → Runs F (o ∷ []) m m'
+  runs_op here kept = ran_by_block (o ∷ []) (image_shown F m) (image_shown F m') (image_held F m) (image_held F m') (omega (arith, same, count_shown F m, count_shown F m')) each where
+    same : count F m' ≡ count F m
+    same = count_same F m m' len
+
+    went : (k : ℕ) → k < count F m → Went k
+    went k h =
         ⊎_elim
-        (λ (e : k ≡ n).
-        let at : shown_at (image_shown F m) k ≡ block F m k = shown_block F m k low in
-        let c : may_hold o k (shown_at (image_shown F m) k) (image_held F m k) ≡ left_by o (block F m k) (image_held F m k) = cond-true (eqb k (target o)) (left_by o (shown_at (image_shown F m) k) (image_held F m k)) (image_held F m k) (eq-eqb k (target o) (e ∙ sym to)) ∙ ap (λ (x : Shown). left_by o x (image_held F m k)) at in
-        subst (λ (l : List (List ℕ)). s ∈ l) (sym c) (subst (λ (x : ℕ). s ∈ left_by o (block F m x) (image_held F m x)) (sym e) (kept s (subst (λ (x : ℕ). s ∈ image_held F m' x) e i))))
-        (λ (ne : k ≡ n → ⊥).
-        let c : may_hold o k (shown_at (image_shown F m) k) (image_held F m k) ≡ image_held F m k = cond-false (eqb k (target o)) (left_by o (shown_at (image_shown F m) k) (image_held F m k)) (image_held F m k) (ne_eqb k (target o) (λ e. ne (e ∙ to))) in
-        subst (λ (l : List (List ℕ)). s ∈ l) (sym c) (subst (λ (l : List (List ℕ)). s ∈ l) (held_there k low ne) i))
-        (cases_eq k n)
+        (λ (e : k ≡ target o). subst Went (sym e) (block_here o (target o) refl _ _ _ _ here kept))
+        (λ (ne : k ≡ target o → ⊥). block_elsewhere o k ne _ _ _ _ (record { shows = block_there k h ne; holds = λ s i. subst (λ (l : List (List ℕ)). s ∈ l) (held_there k h ne) i }))
+        (cases_eq k (target o))
+
+    each : (k : ℕ) → k < length (image_shown F m) → BlockRan (o ∷ []) k (shown_at (image_shown F m) k) (image_held F m k) (shown_at (image_shown F m') k) (image_held F m' k)
+    each k l =
+        let h : k < count F m = omega (arith, count_shown F m) in
+        let h' : k < count F m' = omega (arith, same) in
+        rw (shown_block F m k h, shown_block F m' k h') (went k h)
 
 -- block n of an image
 module _ (F : Format) (laws : Lawful F) (m : List ℕ) (n : ℕ) (lt : n < count F m) where
@@ -99,7 +84,7 @@ module _ (F : Format) (laws : Lawful F) (m : List ℕ) (n : ℕ) (lt : n < count
 
   runs_mark : Runs F (lose n ∷ []) m (set m n (F.marked (state m n)))
   runs_mark =
-      runs_op F laws m (set m n v) n (length-set m n v) (λ k h ne. get_or-set_other m n k v 0 ne) (λ k j h ne low. place_set v k j) (lose n) refl
+      runs_op F laws m (set m n v) (lose n) (length-set m n v) (λ k h ne. get_or-set_other m n k v 0 ne) (λ k j h ne low. place_set v k j)
       (ap (showing (place F (set m n v) n)) shows)
       (stays_joined (set m n v) None shows (λ j low t. place_set v n j)) where
         v : ℕ
@@ -142,7 +127,7 @@ module _ (F : Format) (laws : Lawful F) (m : List ℕ) (n : ℕ) (lt : n < count
 
   runs_write : (s : List ℕ) → length s ≡ 64 → Runs F (write n s ∷ []) m (overwritten (place_at F (count F m) n (F.next (state m n))) s (set m n (F.next (state m n))))
   runs_write s len =
-      runs_op F laws m m' n (changed_length v a s low high) (changed_states v a s low high) (changed_places v a s low high) (write n s) refl
+      runs_op F laws m m' (write n s) (changed_length v a s low high) (changed_states v a s low high) (changed_places v a s low high)
       (ap (showing (place F m' n)) shows ∙ ap sector filled)
       (stays_joined m' (Some v) shows others) where
         v : ℕ
@@ -173,7 +158,7 @@ module _ (F : Format) (laws : Lawful F) (m : List ℕ) (n : ℕ) (lt : n < count
 
   runs_wipe : Runs F (wipe n ∷ []) m (overwritten first (replicate (64 * F.places) 0) (set m n 0))
   runs_wipe =
-      runs_op F laws m m' n (changed_length 0 first zeros low high) (changed_states 0 first zeros low high) (changed_places 0 first zeros low high) (wipe n) refl
+      runs_op F laws m m' (wipe n) (changed_length 0 first zeros low high) (changed_states 0 first zeros low high) (changed_places 0 first zeros low high)
       (ap (showing (place F m' n)) shows ∙ ap sector (cleared 0 (laws.shows_below 0 0 laws.wiped_shows)))
       (λ s i. subst (λ (l : List (List ℕ)). s ∈ l) (held_blank F.places (place F m' n) (F.shows (state m' n)) (λ j l. ap is_blank (cleared j l))) i) where
         zeros : List ℕ
@@ -200,21 +185,21 @@ module _ (F : Format) (laws : Lawful F) (m : List ℕ) (n : ℕ) (lt : n < count
             place_inside 0 first zeros low high j (64 * j) (omega arith) (omega (arith, long))
             ∙ ap (take 64) (drop-replicate (64 * j) (64 * F.places) 0) ∙ take-replicate 64 (64 * F.places - 64 * j) 0 h
 
--- an image that a call makes: an operation of block n below the count, nothing past it
-module _ (F : Format) (m m' : List ℕ) (n : ℕ) (o : Op) (to : target o ≡ n) (run : n < count F m → Runs F (o ∷ []) m m') where
-  if_runs : Runs F (o ∷ []) m (if_block F m n m')
-  if_runs =
-      cond_both (ltb n (count F m)) m' m (Runs F (o ∷ []) m)
-      (λ t. run (ltb-true n (count F m) t))
-      (λ t. ran_past o (image_shown F m) (image_held F m) (omega (arith, ltb-false n (count F m) t, count_shown F m)))
+-- an image that a call makes: an operation of a block below the count, nothing past it
+call_runs : (F : Format) (m m₁ m' : List ℕ) (o : Op) → (target o < count F m → Runs F (o ∷ []) m m₁) → m' ≡ if_block F m (target o) m₁ → Runs F (o ∷ []) m m'
+call_runs F m m₁ m' o run e =
+    subst (Runs F (o ∷ []) m) (sym e)
+    (cond_both (ltb (target o) (count F m)) m₁ m (Runs F (o ∷ []) m)
+    (λ t. run (ltb-true (target o) (count F m) t))
+    (λ t. ran_past o (image_shown F m) (image_held F m) (omega (arith, ltb-false (target o) (count F m) t, count_shown F m))))
 
 -- each call's image is what its operation makes of what is shown and held
-module _ (F : Format) (laws : Lawful F) (m : List ℕ) (n : ℕ) where
-  pub write_runs : (s : List ℕ) → length s ≡ 64 → Runs F (write n s ∷ []) m (write_image F m n s)
-  write_runs s len = if_runs F m _ n (write n s) refl (λ lt. runs_write F laws m n lt s len)
+module _ (F : Format) (laws : Lawful F) (m m' : List ℕ) (n : ℕ) where
+  pub write_runs : (s : List ℕ) → length s ≡ 64 → m' ≡ write_image F m n s → Runs F (write n s ∷ []) m m'
+  write_runs s len = call_runs F m _ m' (write n s) (λ lt. runs_write F laws m n lt s len)
 
-  pub wipe_runs : Runs F (wipe n ∷ []) m (wipe_image F m n)
-  wipe_runs = if_runs F m _ n (wipe n) refl (runs_wipe F laws m n)
+  pub wipe_runs : m' ≡ wipe_image F m n → Runs F (wipe n ∷ []) m m'
+  wipe_runs = call_runs F m _ m' (wipe n) (runs_wipe F laws m n)
 
-  pub mark_runs : Runs F (lose n ∷ []) m (mark_image F m n)
-  mark_runs = if_runs F m _ n (lose n) refl (runs_mark F laws m n)
+  pub mark_runs : m' ≡ mark_image F m n → Runs F (lose n ∷ []) m m'
+  mark_runs = call_runs F m _ m' (lose n) (runs_mark F laws m n)

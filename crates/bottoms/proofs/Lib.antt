@@ -2,4 +2,4 @@ pub mod Bytes
 pub mod Places
 pub mod Named
 pub mod Changes
-pub mod Calls
+pub mod Lent

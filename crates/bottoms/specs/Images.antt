@@ -1,7 +1,7 @@
 -- The image of a card: N state bytes, then for each block its places. What it shows and holds, and what each call makes of it.
-use Rattle.std.specs.Prelude.{◌≡◌, ℕ, ◌+◌, ◌*◌, ◌/◌, ◌<◌, ◌≤◌, min, Bool, true, if◌then◌else◌, not, ◌&&◌, List, ◌++◌, map, length, take, drop, replicate, Some, None, filter, Option, ◌==◌, nat_lt, slice_index, slice_set}
+use Rattle.std.specs.Prelude.{◌≡◌, ℕ, ◌+◌, ◌*◌, ◌/◌, ◌<◌, ◌≤◌, min, Bool, true, if◌then◌else◌, not, ◌&&◌, List, ◌++◌, map, count_by, length, take, drop, replicate, Some, None, filter, Option, ◌==◌, nat_lt, slice_index, slice_set}
 use Rattle.std.specs.List.{range_with_len}
-use Rattle.device.specs.Blocks.{Shown, lost, sector, Held, is_blank}
+use Rattle.device.specs.Blocks.{Shown, lost, sector, shown_at, Held, is_blank}
 use Rattle.device.specs.Operations.{Op, Ran}
 use Rattle.bottoms.specs.Formats.{Format}
 
@@ -59,6 +59,10 @@ hidden (Some k) j = not (j == k)
 abbrev pub is_held : (ℕ → List ℕ) → Option ℕ → ℕ → Bool
 is_held at shows j = hidden shows j && not (is_blank (at j))
 
+-- how many sectors a block holds whose places alone are given, and which of them is shown
+abbrev pub count_in : List ℕ → Option ℕ → ℕ
+count_in places shows = count_by (λ j. is_held (place_in places) shows j) (range_with_len 0 (length places / 64))
+
 -- what the image holds for block n, in the order of the places
 abbrev pub image_held : Format → List ℕ → Held
 image_held F m n = map (place F m n) (filter (is_held (place F m n) (F.shows (state m n))) (range_with_len 0 F.places))
@@ -93,3 +97,9 @@ pub record Located (len places n i first : ℕ) : Type 0 where
   pub index : i ≡ n
   pub start : first ≡ blocks_in len places + 64 * (places * n)
   pub inside : first + 64 * places ≤ len
+
+-- What the code finds when it asks for the places of block n: they show what the image shows for it, and hold as many sectors.
+pub record Lent (F : Format) (m : List ℕ) (n : ℕ) (places : List ℕ) (shown : Option ℕ) : Type 0 where
+  pub below : n < length (image_shown F m)
+  pub shows : showing (place_in places) shown ≡ shown_at (image_shown F m) n
+  pub holds : count_in places shown ≡ length (image_held F m n)

@@ -3,12 +3,13 @@ ghost use Rattle.std.specs.Prelude.{◌≡◌, ◌≤◌, true, [], ◌∷◌, l
 ghost use Rattle.device.specs.Answers.{accepted, answer_of, of_block, change_answer, read_answer, read_buffer};
 ghost use Rattle.device.specs.Operations.{write, wipe, lose};
 ghost use Rattle.device.specs.declared.fault.DeviceFault.TheVariants.{NoBlock};
-ghost use Rattle.bottoms.specs.Images.{Located, image_shown, image_held, Runs, write_image, wipe_image, mark_image};
+ghost use Rattle.bottoms.specs.Images.{Located, Lent, image_shown, image_held, Runs, write_image, wipe_image, mark_image};
 ghost use Rattle.bottoms.specs.Named.{Named};
 ghost use Rattle.bottoms.specs.Opening.{opening, opening_of};
 
+use crate::block::Block;
 use crate::fault::Refused;
-use crate::image::{check_size, count_blocks, count_held, erase, fill, locate, read_shown};
+use crate::image::{check_size, count_blocks, erase, fill};
 use crate::placement::{InPlace, Placement, Rotation};
 use device::{Device, DeviceFault, Sector};
 
@@ -25,6 +26,7 @@ pub type Plain<'a> = Card<'a, InPlace>;
 // The card that writes each time to the next of a block's four places.
 pub type Rotating<'a> = Card<'a, Rotation>;
 
+#[tactic(auto, using(crate::proofs::Changes::count_shown, crate::proofs::Places::count_fits, crate::proofs::Places::places_inside, crate::proofs::Named::image_named))]
 impl<'a, P: Placement> Card<'a, P> {
     // The card of so many blocks that these bytes are. Nothing is written, and refused memory is handed back.
     pub fn open(bytes: &'a mut [u8], count: u32) -> Result<Card<'a, P>, Refused<'a>>
@@ -39,10 +41,27 @@ impl<'a, P: Placement> Card<'a, P> {
     }
 
     // Where block n lies: the index of its state, and the start of its first place.
+    // It asks `count` and not `check_block`, which takes the card as a device, whose methods call this one: the check refuses that cycle.
     fn find(&self, n: u32) -> Result<(usize, usize), DeviceFault>
         ensures { MatchResult result (λ p. Located (length self.now.bytes.now) P.Placement.format.places n p.0 p.1) (λ f. (length (image_shown P.Placement.format self.now.bytes.now) ≤ n) × (f ≡ NoBlock n)) }
     {
-        locate(self.bytes.len(), self.placement.places(), n)
+        let count = self.count();
+        if n >= count {
+            return Err(DeviceFault::NoBlock(n));
+        }
+        let i = n as usize;
+        Ok((i, count as usize + 64 * (self.placement.places() * i)))
+    }
+
+    // The places of block n, and which of them is shown.
+    fn block(&self, n: u32) -> Result<Block<'_>, DeviceFault>
+        ensures { MatchResult result (λ b. Lent P.Placement.format self.now.bytes.now n b.places.now b.shown) (λ f. (length (image_shown P.Placement.format self.now.bytes.now) ≤ n) × (f ≡ NoBlock n)) }
+    {
+        let (i, first) = self.find(n)?;
+        Ok(Block {
+            places: &self.bytes[first..first + 64 * self.placement.places()],
+            shown: self.placement.shown(self.bytes[i]),
+        })
     }
 
     // How many sectors that aren't blank the card keeps for block n beside the one shown. These and those shown are all that it keeps.
@@ -50,30 +69,11 @@ impl<'a, P: Placement> Card<'a, P> {
         ensures answer { answer_of result ≡ of_block (image_shown P.Placement.format self.now.bytes.now) n (accepted (length (image_held P.Placement.format self.now.bytes.now n))) }
         ensures named { Named P.Placement.format self.now.bytes.now }
     {
-        let (i, first) = self.find(n)?;
-        let places = self.placement.places();
-        Ok(count_held(
-            &self.bytes[first..first + 64 * places],
-            self.placement.shown(self.bytes[i]),
-        ))
-    }
-
-    // Fills the buffer with the sector that block n shows.
-    fn look(&self, n: u32, buf: &mut Sector) -> Result<(), DeviceFault>
-        ensures answer { answer_of result ≡ read_answer (image_shown P.Placement.format self.now.bytes.now) n }
-        ensures buffer { buf.new ≡ read_buffer (image_shown P.Placement.format self.now.bytes.now) n buf.old }
-    {
-        let (i, first) = self.find(n)?;
-        let places = self.placement.places();
-        read_shown(
-            &self.bytes[first..first + 64 * places],
-            self.placement.shown(self.bytes[i]),
-            n,
-            buf,
-        )
+        Ok(self.block(n)?.count_held())
     }
 }
 
+#[tactic(auto, using(crate::proofs::Changes::count_shown))]
 impl<P: Placement> Device for Card<'_, P> {
     ghost shown = { λ d. image_shown P.Placement.format d.bytes.now };
 
@@ -95,7 +95,7 @@ impl<P: Placement> Device for Card<'_, P> {
         ensures effect { Runs P.Placement.format [] self.old.bytes.now self.new.bytes.now }
         ensures image { self.new.bytes.now ≡ self.old.bytes.now }
     {
-        self.look(n, buf)
+        self.block(n)?.read(n, buf)
     }
 
     fn write(&mut self, n: u32, s: &Sector) -> Result<(), DeviceFault>

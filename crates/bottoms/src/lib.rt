@@ -1,6 +1,7 @@
 // Two cards on the caller's bytes: one that writes in place, and one that writes each time to the next of four places.
 #![tactic(auto)]
 
+mod block;
 mod card;
 mod fault;
 mod image;

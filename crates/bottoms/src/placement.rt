@@ -46,7 +46,7 @@ impl Placement for InPlace {
     }
 
     fn shown(&self, state: u8) -> Option<usize> {
-        if state == 0 { Some(0) } else { None }
+        (state == 0).then_some(0)
     }
 
     fn next(&self, _state: u8) -> u8 {
@@ -72,11 +72,7 @@ impl Placement for Rotation {
     }
 
     fn shown(&self, state: u8) -> Option<usize> {
-        if state < 4 {
-            Some(usize::from(state % 4))
-        } else {
-            None
-        }
+        (state < 4).then_some(usize::from(state))
     }
 
     fn next(&self, state: u8) -> u8 {

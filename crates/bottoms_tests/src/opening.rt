@@ -2,6 +2,7 @@
 use bottoms::{Card, InPlace, Placement, Plain, Rotating, Rotation};
 use device::Device;
 use std::alloc::{AllocError, Global};
+use std::process::Abort;
 use std::test::Fail;
 
 // How many blocks so many bytes have as a card, or the ground on which they are refused.
@@ -11,10 +12,26 @@ fn opened<P: Placement>(
     count: u32,
 ) -> Result<Result<u32, u32>, AllocError> {
     let mut memory = vec![in heap; 0u8; len]?;
-    match Card::<P>::open(memory.as_mut_slice(), count) {
-        Ok(card) => Ok(Ok(card.count())),
-        Err(refused) => Ok(Err(refused.fault.ground())),
+    Ok(match Card::<P>::open(memory.as_mut_slice(), count) {
+        Ok(card) => Ok(card.count()),
+        Err(refused) => Err(refused.fault.ground()),
+    })
+}
+
+// Opens so many bytes as so many blocks, for each length, count and answer.
+fn open_each<P: Placement>(
+    rt: &impl Abort,
+    heap: Global,
+    cases: &[(usize, u32, Result<u32, u32>)],
+) -> Result<(), Fail> {
+    for &(len, count, answer) in cases {
+        assert_eq!(rt;
+            opened::<P>(heap, len, count)?,
+            answer,
+            "{len} bytes as {count} blocks"
+        );
     }
+    Ok(())
 }
 
 // The two cards by their own names.
@@ -28,20 +45,30 @@ fn names_of_the_cards(rt: HostRuntime) {
 
 #[test]
 fn plain_memory(rt: HostRuntime) -> Result<(), Fail> {
-    assert_eq!(rt; opened::<InPlace>(rt.alloc(), 65, 1)?, Ok(1));
-    assert_eq!(rt; opened::<InPlace>(rt.alloc(), 66_560, 1024)?, Ok(1024));
-    assert_eq!(rt; opened::<InPlace>(rt.alloc(), 64, 1)?, Err(2));
-    assert_eq!(rt; opened::<InPlace>(rt.alloc(), 66_625, 1025)?, Err(2));
-    assert_eq!(rt; opened::<InPlace>(rt.alloc(), 0, 0)?, Err(2));
-    Ok(())
+    open_each::<InPlace>(
+        &rt,
+        rt.alloc(),
+        &[
+            (65, 1, Ok(1)),
+            (66_560, 1024, Ok(1024)),
+            (64, 1, Err(2)),
+            (66_625, 1025, Err(2)),
+            (0, 0, Err(2)),
+        ],
+    )
 }
 
 #[test]
 fn rotating_memory(rt: HostRuntime) -> Result<(), Fail> {
-    assert_eq!(rt; opened::<Rotation>(rt.alloc(), 257, 1)?, Ok(1));
-    assert_eq!(rt; opened::<Rotation>(rt.alloc(), 263_168, 1024)?, Ok(1024));
-    assert_eq!(rt; opened::<Rotation>(rt.alloc(), 256, 1)?, Err(2));
-    assert_eq!(rt; opened::<Rotation>(rt.alloc(), 263_425, 1025)?, Err(2));
-    assert_eq!(rt; opened::<Rotation>(rt.alloc(), 257, 2)?, Err(2));
-    Ok(())
+    open_each::<Rotation>(
+        &rt,
+        rt.alloc(),
+        &[
+            (257, 1, Ok(1)),
+            (263_168, 1024, Ok(1024)),
+            (256, 1, Err(2)),
+            (263_425, 1025, Err(2)),
+            (257, 2, Err(2)),
+        ],
+    )
 }
