@@ -11,7 +11,7 @@ use crate::block::Block;
 use crate::fault::Refused;
 use crate::image::{check_size, count_blocks, erase, fill};
 use crate::placement::{InPlace, Placement, Rotation};
-use device::{Device, DeviceFault, Sector};
+use device::{Device, DeviceFault, Sector, check_block};
 
 // The bytes that the caller lent, and how a block uses its places.
 #[derive(Drop)]
@@ -41,14 +41,11 @@ impl<'a, P: Placement> Card<'a, P> {
     }
 
     // Where block n lies: the index of its state, and the start of its first place.
-    // It asks `count` and not `check_block`, which takes the card as a device, whose methods call this one: the check refuses that cycle.
     fn find(&self, n: u32) -> Result<(usize, usize), DeviceFault>
         ensures { MatchResult result (λ p. Located (length self.now.bytes.now) P.Placement.format.places n p.0 p.1) (λ f. (length (image_shown P.Placement.format self.now.bytes.now) ≤ n) × (f ≡ NoBlock n)) }
     {
         let count = self.count();
-        if n >= count {
-            return Err(DeviceFault::NoBlock(n));
-        }
+        check_block(count, n)?;
         let i = n as usize;
         Ok((i, count as usize + 64 * (self.placement.places() * i)))
     }

@@ -20,9 +20,11 @@ impl OpenFault {
     }
 }
 
-// A refusal to open, which hands the memory back as it was.
+// A refusal to open, which hands the memory back as it was. What is in the memory is not printed with it.
 #[derive(Drop)]
+#[derive_where(Debug)]
 pub struct Refused<'a> {
     pub fault: OpenFault,
+    #[derive_where(skip(Debug))]
     pub bytes: &'a mut [u8],
 }

@@ -1,19 +1,11 @@
 // What the calls leave.
-use bottoms::{Card, InPlace, OpenFault, Placement, Rotation};
+use bottoms::{Card, InPlace, Placement, Rotation};
 use device::{Device, DeviceFault, blank_sector};
 use std::test::Fail;
 
-// The card that the memory is. A `map_err` would say it shorter, but the check covers none where both sides hold the lent bytes.
-fn open<P: Placement>(memory: &mut [u8], count: u32) -> Result<Card<'_, P>, OpenFault> {
-    match Card::open(memory, count) {
-        Ok(card) => Ok(card),
-        Err(refused) => Err(refused.fault),
-    }
-}
-
 // Sectors held for the block after a sector, after a blank one over it, and after a wipe.
 fn held<P: Placement>(memory: &mut [u8]) -> Result<(usize, usize, usize), Fail> {
-    let mut card = open::<P>(memory, 1)?;
+    let mut card = Card::<P>::open(memory, 1)?;
     card.write(0, &[7; 64])?;
     let written = card.held_count(0)?;
     card.write(0, &blank_sector())?;
@@ -33,7 +25,7 @@ fn blank_over_a_sector(rt: HostRuntime) -> Result<(), Fail> {
 
 // The answers of a mark, of a read of the lost block, and of a write past the count; and a byte of the buffer after the read.
 fn refusals<P: Placement>(memory: &mut [u8]) -> Result<([Result<(), DeviceFault>; 3], u8), Fail> {
-    let mut card = open::<P>(memory, 2)?;
+    let mut card = Card::<P>::open(memory, 2)?;
     let mut buffer = [5; 64];
     let answers = [
         card.mark(1),
@@ -62,7 +54,7 @@ fn refused_blocks(rt: HostRuntime) -> Result<(), Fail> {
 
 // Three writes, a mark and a fourth write to the first of two blocks.
 fn turns<P: Placement>(memory: &mut [u8]) -> Result<(), Fail> {
-    let mut card = open::<P>(memory, 2)?;
+    let mut card = Card::<P>::open(memory, 2)?;
     card.write(0, &[1; 64])?;
     card.write(0, &[2; 64])?;
     card.write(0, &[3; 64])?;

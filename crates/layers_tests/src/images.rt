@@ -1,6 +1,5 @@
 // The calls of a pile, compared with the calls that should reach each of its cards: both leave the same bytes.
-use crate::opening::open;
-use bottoms::{InPlace, OpenFault, Placement, Rotation};
+use bottoms::{Card, InPlace, Placement, Plain, Rotating, Rotation};
 use device::{Device, DeviceFault, Sector, blank_sector};
 use layers::{Cache, Mirror};
 use std::test::Fail;
@@ -48,21 +47,21 @@ fn on_pile(
     calls: &[Call],
     first: &mut [u8],
     second: &mut [u8],
-) -> Result<(usize, u8, u32), OpenFault> {
-    let plain = open::<InPlace>(first, 6)?;
-    let rotating = open::<Rotation>(second, 6)?;
+) -> Result<(usize, u8, u32), Fail> {
+    let plain = Plain::open(first, 6)?;
+    let rotating = Rotating::open(second, 6)?;
     let mut pile = Cache::new(Mirror::new(plain, rotating));
     Ok(run(&mut pile, calls))
 }
 
-fn on_card<P: Placement>(calls: &[Call], bytes: &mut [u8]) -> Result<(usize, u8, u32), OpenFault> {
-    let mut card = open::<P>(bytes, 6)?;
+fn on_card<P: Placement>(calls: &[Call], bytes: &mut [u8]) -> Result<(usize, u8, u32), Fail> {
+    let mut card = Card::<P>::open(bytes, 6)?;
     Ok(run(&mut card, calls))
 }
 
 // Whether so many calls of the pile are accepted, the last of them that read gave 64 times this byte, and both cards are left as the calls
 // below leave them alone.
-fn alike(calls: &[Call], accepted: usize, read: u8, below: &[Call]) -> Result<bool, OpenFault> {
+fn alike(calls: &[Call], accepted: usize, read: u8, below: &[Call]) -> Result<bool, Fail> {
     let mut plain = [0; 390];
     let mut rotating = [0; 1542];
     let answered = on_pile(calls, &mut plain, &mut rotating)?;

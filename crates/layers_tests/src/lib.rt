@@ -4,8 +4,6 @@
 #[cfg(test)]
 mod images;
 #[cfg(test)]
-mod opening;
-#[cfg(test)]
 mod order;
 #[cfg(test)]
 mod repair;

@@ -1,6 +1,5 @@
 // The order in which a cache writes its lines below.
-use crate::opening::open;
-use bottoms::InPlace;
+use bottoms::{Card, Plain};
 use device::{Device, DeviceFault, Sector};
 use layers::Cache;
 use std::test::Fail;
@@ -54,7 +53,7 @@ impl<D: Device> Device for Noted<D> {
 fn lines_in_order(rt: HostRuntime) -> Result<(), Fail> {
     let mut bytes = [0; 390];
     let mut cache = Cache::new(Noted {
-        below: open::<InPlace>(&mut bytes, 6)?,
+        below: Plain::open(&mut bytes, 6)?,
         written: Vec::with_capacity(rt.alloc(), 8)?,
     });
     for n in [3, 1, 2, 0, 5] {

@@ -1,6 +1,5 @@
 // What repair answers.
-use crate::opening::open;
-use bottoms::{InPlace, Rotation};
+use bottoms::{Card, Plain, Rotating};
 use device::{Device, DeviceFault};
 use layers::Mirror;
 use std::test::Fail;
@@ -11,8 +10,8 @@ use std::test::Fail;
 fn sides_written(rt: HostRuntime) -> Result<(), Fail> {
     let mut first = [0; 130];
     let mut second = [0; 771];
-    let plain = open::<InPlace>(&mut first, 2)?;
-    let rotating = open::<Rotation>(&mut second, 3)?;
+    let plain = Plain::open(&mut first, 2)?;
+    let rotating = Rotating::open(&mut second, 3)?;
     let mut mirror = Mirror::new(plain, rotating);
     mirror.write(1, &[7; 64])?;
     mirror.a.mark(1)?;
