@@ -10,7 +10,7 @@ pub enum OpenFault {
 }
 
 impl OpenFault {
-    // The number of the ground of refusal.
+    // The number of the ground of refusal: the rules fix one for each ground, by which people and programs know it.
     pub fn ground(&self) -> u32
         ensures { result ≡ open_ground_of self.now }
     {

@@ -3,7 +3,8 @@ ghost use Rattle.std.specs.Prelude.{◌≡◌, ◌≤◌};
 ghost use Rattle.bottoms.specs.Formats.{Format, Lawful, plain, rotating};
 ghost use Rattle.std.proofs.Common.{rules};
 
-// What a card asks of the way its blocks are kept.
+// What a card asks of the way its blocks are kept. A state is the byte that lies on the card, and no enum, since the format fixes what each
+// of its values means.
 pub trait Placement: Copy + Default {
     // the places of a block, and what its state says
     ghost format: { Format };

@@ -5,7 +5,7 @@ use std::alloc::{AllocError, Global};
 use std::process::Abort;
 use std::test::Fail;
 
-// How many blocks so many bytes have as a card, or the ground on which they are refused.
+// How many blocks so many bytes have as a card, or the ground on which they are refused, by its number, which is what a test has to compare.
 fn opened<P: Placement>(
     heap: Global,
     len: usize,

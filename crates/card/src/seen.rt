@@ -42,7 +42,7 @@ impl fmt::Display for Seen {
     }
 }
 
-// The text as a sector, as much of it as there is room for, and zeros after it.
+// The text as a sector, as much of it as there is room for, and zeros after it. No `From`: a sector is an array, and not a type of ours.
 pub(crate) fn sector_of(text: &str) -> Sector
     ensures { result ≡ padded text.now }
 {

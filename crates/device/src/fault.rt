@@ -12,7 +12,7 @@ pub enum DeviceFault {
 }
 
 impl DeviceFault {
-    // The number of the ground of refusal.
+    // The number of the ground of refusal: the rules fix one for each ground, by which people and programs know it.
     pub fn ground(&self) -> u32
         ensures { result ≡ ground_of self.now }
     {

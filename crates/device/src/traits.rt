@@ -7,7 +7,8 @@ ghost use Rattle.device.specs.Operations.{write, wipe, lose, Ran};
 use crate::fault::DeviceFault;
 use crate::sector::Sector;
 
-// A device of a fixed count of blocks, at most 1,024, numbered from 0. Each shows a sector or is lost.
+// A device of a fixed count of blocks, at most 1,024, numbered from 0. Each shows a sector or is lost. A call of an `impl` that has clauses of
+// its own repeats those below, `most` among them, since its own stand in their place.
 pub trait Device {
     // what each block shows, in order; the length is the count
     ghost shown: { Self → List Shown };

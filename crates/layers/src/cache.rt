@@ -43,6 +43,7 @@ impl<D: Device> Cache<D> {
     }
 }
 
+// A wipe and a mark are alike but for the call that each passes on, which is less than a function for both would take.
 #[tactic(auto, using(crate::proofs::CacheRuns::cache_count, crate::proofs::Naming::cache_named))]
 impl<D: Device> Device for Cache<D> {
     ghost shown = { (cached D.Device).shown };

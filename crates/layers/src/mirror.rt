@@ -34,7 +34,8 @@ impl<A: Device, B: Device> Mirror<A, B> {
     }
 }
 
-// A side refuses no change of a block that both have, so its answer to one says nothing new.
+// A side refuses no change of a block that both have, so its answer to one says nothing new. The three changes are alike but for the call
+// that each makes; one function for them would take a closure for either side, and be no shorter.
 #[tactic(auto, using(crate::proofs::MirrorRuns::both_sides, crate::proofs::MirrorRuns::mirror_count, crate::proofs::Naming::mirror_named))]
 impl<A: Device, B: Device> Device for Mirror<A, B> {
     ghost shown = { (mirrored A.Device B.Device).shown };

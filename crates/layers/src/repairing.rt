@@ -17,7 +17,8 @@ fn shows<D: Device>(device: &mut D, n: u32, s: &Sector) -> bool
     device.read(n, &mut shown).is_ok() && *s == shown
 }
 
-// Has block n of a device show the sector: writes it unless it is shown already. How many writes that took.
+// Has block n of a device show the sector: writes it unless it is shown already. How many writes that took: a count and no `bool`, since
+// repair answers the sum.
 fn mend<D: Device>(device: &mut D, n: u32, s: &Sector) -> u32
     ensures writes { result ≡ length (mending n s.now (shown_at (D.Device.shown device.old) n)) }
     ensures most { result ≤ 1 }

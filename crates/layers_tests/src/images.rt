@@ -43,11 +43,7 @@ fn run<D: Device>(device: &mut D, calls: &[Call]) -> (usize, u8, u32) {
 }
 
 // The same on a new pile over cards of six blocks, and on one card.
-fn on_pile(
-    calls: &[Call],
-    first: &mut [u8],
-    second: &mut [u8],
-) -> Result<(usize, u8, u32), Fail> {
+fn on_pile(calls: &[Call], first: &mut [u8], second: &mut [u8]) -> Result<(usize, u8, u32), Fail> {
     let plain = Plain::open(first, 6)?;
     let rotating = Rotating::open(second, 6)?;
     let mut pile = Cache::new(Mirror::new(plain, rotating));
