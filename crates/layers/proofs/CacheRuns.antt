@@ -30,6 +30,10 @@ shown_from_at k ls (c ∷ d) (suc n) h = let e : k + suc n ≡ suc k + n = omega
 pub cache_at : (ls : List Line) (d : List Shown) (n : ℕ) → n < length d → shown_at (cache_shown ls d) n ≡ shown_over (waiting_for ls n) (shown_at d n)
 cache_at ls d n h = rw zero-add at (shown_from_at 0 ls d n h)
 
+-- A cache of these lines over a device that showed d and held h went through the operations; it has lines ls' now, and the device shows d' and holds h'.
+abbrev pub CacheRan : List Op → List Line → List Shown → Held → List Line → List Shown → Held → Type 0
+CacheRan os ls d h ls' d' h' = Ran os (cache_shown ls d) (cache_held ls d h) (cache_shown ls' d') (cache_held ls' d' h')
+
 -- What happens to a block of the cache, by what waits for it, and what it shows and holds below.
 abbrev Over : List Op → ℕ → Option (List ℕ) → Shown → List (List ℕ) → Option (List ℕ) → Shown → List (List ℕ) → Type 0
 Over os n w c kept w' c' kept' = BlockRan os n (shown_over w c) (held_over w c kept) (shown_over w' c') (held_over w' c' kept')
@@ -37,7 +41,7 @@ Over os n w c kept w' c' kept' = BlockRan os n (shown_over w c) (held_over w c k
 -- a run below is a run of the cache, if at each block what happens below makes what happens to the cache
 cache_ran : (os : List Op) (ls ls' : List Line) {ps : List Op} {d d' : List Shown} {h h' : Held} → Ran ps d h d' h'
     → ((n : ℕ) (c c' : Shown) (kept kept' : List (List ℕ)) → BlockRan ps n c kept c' kept' → Over os n (waiting_for ls n) c kept (waiting_for ls' n) c' kept')
-    → Ran os (cache_shown ls d) (cache_held ls d h) (cache_shown ls' d') (cache_held ls' d' h')
+    → CacheRan os ls d h ls' d' h'
 cache_ran os ls ls' {ps} {d} {d'} {h} {h'} run each = ran_by_block os _ _ _ _ (cache_count ls' d' ∙ len ∙ sym (cache_count ls d)) (λ n l.
     let m : n < length d = omega (arith, cache_count ls d) in
     rw (cache_at ls d n m, cache_at ls' d' n (omega (arith, len))) (each n _ _ _ _ (block_ran ps d d' h h' run n m))) where
@@ -61,7 +65,7 @@ over_same : {n : ℕ} {w w' : Option (List ℕ)} {c c' : Shown} {kept kept' : Li
 over_same {w = w} e run = rw e (record { shows = ap (shown_over w) run.shows; holds = held_among w run })
 
 -- The lines stay, and below nothing changes.
-pub cache_kept : (ls : List Line) (d d' : List Shown) (h h' : Held) → Ran [] d h d' h' → Ran [] (cache_shown ls d) (cache_held ls d h) (cache_shown ls d') (cache_held ls d' h')
+pub cache_kept : (ls : List Line) (d d' : List Shown) (h h' : Held) → Ran [] d h d' h' → CacheRan [] ls d h ls d' h'
 cache_kept ls d d' h h' run = cache_ran [] ls ls run (λ n c c' kept kept' below. over_same refl below)
 
 -- two tables whose lines differ at most for block b
@@ -70,7 +74,7 @@ SameBut b ls ls' = (n : ℕ) → (n ≡ b → ⊥) → waiting_for ls' n ≡ wai
 
 -- The line for a block is dropped and an operation on the block passed on.
 pub passed_on : (o : Op) (ls ls' : List Line) (d d' : List Shown) (h h' : Held) → waiting_for ls' (target o) ≡ None → SameBut (target o) ls ls' → Ran (o ∷ []) d h d' h'
-    → Ran (o ∷ []) (cache_shown ls d) (cache_held ls d h) (cache_shown ls' d') (cache_held ls' d' h')
+    → CacheRan (o ∷ []) ls d h ls' d' h'
 passed_on o ls ls' d d' h h' gone same run = cache_ran (o ∷ []) ls ls' run (λ n c c' kept kept' below.
     elim (cases_eq n (target o)) [
       | inl e ↦
@@ -81,7 +85,7 @@ passed_on o ls ls' d d' h h' gone same run = cache_ran (o ∷ []) ls ls' run (λ
 
 -- A sector comes to wait for block n.
 pub put : (n : ℕ) (s : List ℕ) (ls ls' : List Line) (d d' : List Shown) (h h' : Held) → waiting_for ls' n ≡ Some s → SameBut n ls ls' → Ran [] d h d' h'
-    → Ran (write n s ∷ []) (cache_shown ls d) (cache_held ls d h) (cache_shown ls' d') (cache_held ls' d' h')
+    → CacheRan (write n s ∷ []) ls d h ls' d' h'
 put b s ls ls' d d' h h' new same run = cache_ran (write b s ∷ []) ls ls' run (λ n c c' kept kept' below.
     elim (cases_eq n b) [
       | inl e ↦
@@ -92,7 +96,7 @@ put b s ls ls' d d' h h' new same run = cache_ran (write b s ∷ []) ls ls' run 
 
 -- The line that stands for a block is written below and emptied.
 written_back : (b : ℕ) (s : List ℕ) (ls ls' : List Line) (d d' : List Shown) (h h' : Held) → waiting_for ls b ≡ Some s → waiting_for ls' b ≡ None → SameBut b ls ls' → Ran (write b s ∷ []) d h d' h'
-    → Ran [] (cache_shown ls d) (cache_held ls d h) (cache_shown ls' d') (cache_held ls' d' h')
+    → CacheRan [] ls d h ls' d' h'
 written_back b s ls ls' d d' h h' old gone same run = cache_ran [] ls ls' run (λ n c c' kept kept' below.
     elim (cases_eq n b) [
       | inl e ↦
@@ -103,7 +107,7 @@ written_back b s ls ls' d d' h h' old gone same run = cache_ran [] ls ls' run (�
 
 -- All lines are written below and emptied.
 pub all_written_back : (ls ls' : List Line) → Apart ls → ((n : ℕ) → waiting_for ls' n ≡ None) → (d d' : List Shown) (h h' : Held) → Ran (all_waiting ls) d h d' h'
-    → Ran [] (cache_shown ls d) (cache_held ls d h) (cache_shown ls' d') (cache_held ls' d' h')
+    → CacheRan [] ls d h ls' d' h'
 all_written_back ls ls' apart gone d d' h h' run = cache_ran [] ls ls' run (λ n c c' kept kept' below.
     let all = all_at ls apart n c kept in
     rw (gone n) (record { shows = below.shows ∙ all.0; holds = rw all.1 at below.holds }))
@@ -114,26 +118,26 @@ module _ (ls : List Line) (i : ℕ) (inside : i < length ls) (apart : Apart ls) 
   same_but n ne = waiting_other ls i empty_line inside (apart_empty ls i inside apart) n (λ f. cc) ne
 
   emptied_as : (o : Option ℕ) → block_at ls i ≡ o → (d d' : List Shown) (h h' : Held) → Ran (waiting_in o (line_at ls i).bytes) d h d' h'
-      → Ran [] (cache_shown ls d) (cache_held ls d h) (cache_shown (set ls i empty_line) d') (cache_held (set ls i empty_line) d' h')
+      → CacheRan [] ls d h (set ls i empty_line) d' h'
   emptied_as None e d d' h h' run = cache_ran [] ls (set ls i empty_line) run (λ n c c' kept kept' below. over_same (same_but n (λ f. cc)) below)
   emptied_as (Some b) e d d' h h' run =
       written_back b (line_at ls i).bytes ls (set ls i empty_line) d d' h h' (waits_at ls apart i b e) (waiting_gone ls i b inside apart e) (λ n ne. same_but n (λ f. ne (cc))) run
 
   pub line_emptied : (d d' : List Shown) (h h' : Held) → Ran (waiting (line_at ls i)) d h d' h'
-      → Ran [] (cache_shown ls d) (cache_held ls d h) (cache_shown (set ls i empty_line) d') (cache_held (set ls i empty_line) d' h')
+      → CacheRan [] ls d h (set ls i empty_line) d' h'
   line_emptied = emptied_as (block_at ls i) refl
 
 -- Line i, which stands for no other block, comes to stand for block n.
 line_filled : (ls : List Line) (i n : ℕ) (s : List ℕ) → i < length ls → Apart (set ls i (line_of n s)) → ((m : ℕ) → (m ≡ n → ⊥) → block_at ls i ≡ Some m → ⊥)
     → (d d' : List Shown) (h h' : Held) → Ran [] d h d' h'
-    → Ran (write n s ∷ []) (cache_shown ls d) (cache_held ls d h) (cache_shown (set ls i (line_of n s)) d') (cache_held (set ls i (line_of n s)) d' h')
+    → CacheRan (write n s ∷ []) ls d h (set ls i (line_of n s)) d' h'
 line_filled ls i n s inside apart free d d' h h' run =
     put n s ls (set ls i (line_of n s)) d d' h h' (waiting_new ls i (line_of n s) inside apart n refl)
     (λ m ne. waiting_other ls i (line_of n s) inside apart m (λ e. ne (cc)) (free m ne)) run
 
 -- Line i is written below, and then comes to stand for block n.
 line_replaced : (ls : List Line) (i n : ℕ) (s : List ℕ) → i < length ls → Apart ls → Apart (set ls i (line_of n s)) → (d d' : List Shown) (h h' : Held) → Ran (waiting (line_at ls i)) d h d' h'
-    → Ran (write n s ∷ []) (cache_shown ls d) (cache_held ls d h) (cache_shown (set ls i (line_of n s)) d') (cache_held (set ls i (line_of n s)) d' h')
+    → CacheRan (write n s ∷ []) ls d h (set ls i (line_of n s)) d' h'
 line_replaced ls i n s inside apart apart' d d' h h' run =
     let bare = set ls i empty_line in
     let twice = set-set ls i empty_line (line_of n s) in
@@ -144,7 +148,7 @@ line_replaced ls i n s inside apart apart' d d' h h' run =
 module _ (t : Table) (n : ℕ) (s : List ℕ) (d d' : List Shown) (h h' : Held) where
   -- by the room that there is
   by_room : taken t n < length t.lines → Apart (lines_written t n s) → Ran (waiting (evicted t n)) d h d' h'
-      → Ran (write n s ∷ []) (cache_shown t.lines d) (cache_held t.lines d h) (cache_shown (lines_written t n s) d') (cache_held (lines_written t n s) d' h')
+      → CacheRan (write n s ∷ []) t.lines d h (lines_written t n s) d' h'
   by_room =
       elim (search_for t.lines (Some n)) [
         | inl f ↦ rw f.at (λ inside apart run. line_filled t.lines f.line n s inside apart (λ m ne e. let b = f.block in ne (cc)) d d' h h' run)
@@ -155,12 +159,12 @@ module _ (t : Table) (n : ℕ) (s : List ℕ) (d d' : List Shown) (h h' : Held) 
       ]
 
   pub written : Ran (waiting (evicted t n)) d h d' h'
-      → Ran (write n s ∷ []) (cache_shown t.lines d) (cache_held t.lines d h) (cache_shown (lines_written t n s) d') (cache_held (lines_written t n s) d' h')
+      → CacheRan (write n s ∷ []) t.lines d h (lines_written t n s) d' h'
   written = by_room (taken_within t n) (apart_set t.lines (taken t n) (line_of n s) (taken_within t n) t.apart (taken_only t n))
 
 -- The line for a block is dropped, if there is one, and an operation on the block passed on.
 pub dropped : (t : Table) (o : Op) (d d' : List Shown) (h h' : Held) → Ran (o ∷ []) d h d' h'
-    → Ran (o ∷ []) (cache_shown t.lines d) (cache_held t.lines d h) (cache_shown (lines_without t (target o)) d') (cache_held (lines_without t (target o)) d' h')
+    → CacheRan (o ∷ []) t.lines d h (lines_without t (target o)) d' h'
 dropped t o d d' h h' run =
     let ls = t.lines in
     elim (search_for ls (Some (target o))) [

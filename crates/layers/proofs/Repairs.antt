@@ -51,19 +51,16 @@ module _ (n : ℕ) (s : List ℕ) where
 -- both sides of a block that the mirror shows as s
 both_mended : {n : ℕ} (s : List ℕ) {a b a' b' : Shown} {ka kb ka' kb' : List (List ℕ)} → pick a b ≡ sector s → Mended s a ka a' ka' → Mended s b kb b' kb' → Both [] n a ka b kb a' ka' b' kb'
 both_mended s {a} {b} {a'} {b'} {ka} {kb} {ka'} {kb'} shown first second = record { shows = rw (first.shows, shown); holds = held } where
-  is_s : (x : List ℕ) → pick a b ≡ sector x → x ≡ s
-  is_s x e = cc
-
   held : Among (held_both a' b' ka' kb') (held_both a b ka kb)
   held x m =
       elim (parts_same a' b' ka' kb' x (first.shows ∙ sym second.shows) m) [
         | inl i ↦ elim (first.gains x i) [
           | inl k ↦ in_first a b ka kb x k
-          | inr g ↦ absurd (g.2 (is_s x (rw g.0)))
+          | inr g ↦ absurd (g.2 (cc))
         ]
         | inr i ↦ elim (second.gains x i) [
           | inl k ↦ in_second a b ka kb x k
-          | inr g ↦ elim (seen a b x g.0 g.1) [ inl p ↦ absurd (g.2 (is_s x p)) | inr k ↦ in_hidden a b ka kb x k ]
+          | inr g ↦ elim (seen a b x g.0 g.1) [ inl p ↦ absurd (g.2 (cc)) | inr k ↦ in_hidden a b ka kb x k ]
         ]
       ]
 
