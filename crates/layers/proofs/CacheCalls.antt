@@ -15,15 +15,15 @@ use Rattle.layers.proofs.CacheRuns.{CacheRan, cache_count, cache_at, written, dr
 module _ (t : Table) (ls' : List Line) {d d' : List Shown} {h h' : Held} where
   -- a line comes to stand for block n, after the one that makes room is written below
   pub wrote : (n : ℕ) (s : List ℕ) (left : Line) → ls' ≡ lines_written t n s → left ≡ evicted t n → Ran (waiting left) d h d' h' → CacheRan (write n s ∷ []) t.lines d h ls' d' h'
-  wrote n s left lines leaves run = rw lines (written t n s _ _ _ _ (rw leaves at run))
+  wrote n s left lines leaves run = rw lines (written t n s (rw leaves at run))
 
   -- a wipe or a mark, which drops the line for the block
   pub passed : (o : Op) → ls' ≡ lines_without t (target o) → Ran (o ∷ []) d h d' h' → CacheRan (o ∷ []) t.lines d h ls' d' h'
-  passed o lines run = rw lines (dropped t o _ _ _ _ run)
+  passed o lines run = rw lines (dropped t o run)
 
   -- all lines are written below and emptied
   pub flushed : ls' ≡ replicate 4 empty_line → Ran (all_waiting t.lines) d h d' h' → CacheRan [] t.lines d h ls' d' h'
-  flushed lines run = all_written_back t.lines ls' t.apart (λ n. rw lines) _ _ _ _ run
+  flushed lines run = all_written_back t.lines ls' t.apart (λ n. rw lines) run
 
 -- A read shows what waits for the block, else what is shown below.
 module _ (ls : List Line) (d : List Shown) (n : ℕ) (inside : n < length d) where

@@ -65,8 +65,8 @@ over_same : {n : ℕ} {w w' : Option (List ℕ)} {c c' : Shown} {kept kept' : Li
 over_same {w = w} e run = rw e (record { shows = ap (shown_over w) run.shows; holds = held_among w run })
 
 -- The lines stay, and below nothing changes.
-pub cache_kept : (ls : List Line) (d d' : List Shown) (h h' : Held) → Ran [] d h d' h' → CacheRan [] ls d h ls d' h'
-cache_kept ls d d' h h' run = cache_ran [] ls ls run (λ n c c' kept kept' below. over_same refl below)
+pub cache_kept : (ls : List Line) {d d' : List Shown} {h h' : Held} → Ran [] d h d' h' → CacheRan [] ls d h ls d' h'
+cache_kept ls run = cache_ran [] ls ls run (λ n c c' kept kept' below. over_same refl below)
 
 -- two tables whose lines differ at most for block b
 abbrev SameBut : ℕ → List Line → List Line → Type 0
@@ -106,9 +106,9 @@ written_back b s ls ls' d d' h h' old gone same run = cache_ran [] ls ls' run (�
     ])
 
 -- All lines are written below and emptied.
-pub all_written_back : (ls ls' : List Line) → Apart ls → ((n : ℕ) → waiting_for ls' n ≡ None) → (d d' : List Shown) (h h' : Held) → Ran (all_waiting ls) d h d' h'
+pub all_written_back : (ls ls' : List Line) → Apart ls → ((n : ℕ) → waiting_for ls' n ≡ None) → {d d' : List Shown} {h h' : Held} → Ran (all_waiting ls) d h d' h'
     → CacheRan [] ls d h ls' d' h'
-all_written_back ls ls' apart gone d d' h h' run = cache_ran [] ls ls' run (λ n c c' kept kept' below.
+all_written_back ls ls' apart gone run = cache_ran [] ls ls' run (λ n c c' kept kept' below.
     let all = all_at ls apart n c kept in
     rw (gone n) (record { shows = below.shows ∙ all.0; holds = rw all.1 at below.holds }))
 
@@ -117,44 +117,44 @@ module _ (ls : List Line) (i : ℕ) (inside : i < length ls) (apart : Apart ls) 
   same_but : (n : ℕ) → (block_at ls i ≡ Some n → ⊥) → waiting_for (set ls i empty_line) n ≡ waiting_for ls n
   same_but n ne = waiting_other ls i empty_line inside (apart_empty ls i inside apart) n (λ f. cc) ne
 
-  emptied_as : (o : Option ℕ) → block_at ls i ≡ o → (d d' : List Shown) (h h' : Held) → Ran (waiting_in o (line_at ls i).bytes) d h d' h'
+  emptied_as : (o : Option ℕ) → block_at ls i ≡ o → {d d' : List Shown} {h h' : Held} → Ran (waiting_in o (line_at ls i).bytes) d h d' h'
       → CacheRan [] ls d h (set ls i empty_line) d' h'
-  emptied_as None e d d' h h' run = cache_ran [] ls (set ls i empty_line) run (λ n c c' kept kept' below. over_same (same_but n (λ f. cc)) below)
-  emptied_as (Some b) e d d' h h' run =
-      written_back b (line_at ls i).bytes ls (set ls i empty_line) d d' h h' (waits_at ls apart i b e) (waiting_gone ls i b inside apart e) (λ n ne. same_but n (λ f. ne (cc))) run
+  emptied_as None e run = cache_ran [] ls (set ls i empty_line) run (λ n c c' kept kept' below. over_same (same_but n (λ f. cc)) below)
+  emptied_as (Some b) e run =
+      written_back b (line_at ls i).bytes ls (set ls i empty_line) _ _ _ _ (waits_at ls apart i b e) (waiting_gone ls i b inside apart e) (λ n ne. same_but n (λ f. ne (cc))) run
 
-  pub line_emptied : (d d' : List Shown) (h h' : Held) → Ran (waiting (line_at ls i)) d h d' h'
+  pub line_emptied : {d d' : List Shown} {h h' : Held} → Ran (waiting (line_at ls i)) d h d' h'
       → CacheRan [] ls d h (set ls i empty_line) d' h'
-  line_emptied = emptied_as (block_at ls i) refl
+  line_emptied run = emptied_as (block_at ls i) refl run
 
 -- Line i, which stands for no other block, comes to stand for block n.
 line_filled : (ls : List Line) (i n : ℕ) (s : List ℕ) → i < length ls → Apart (set ls i (line_of n s)) → ((m : ℕ) → (m ≡ n → ⊥) → block_at ls i ≡ Some m → ⊥)
-    → (d d' : List Shown) (h h' : Held) → Ran [] d h d' h'
+    → {d d' : List Shown} {h h' : Held} → Ran [] d h d' h'
     → CacheRan (write n s ∷ []) ls d h (set ls i (line_of n s)) d' h'
-line_filled ls i n s inside apart free d d' h h' run =
-    put n s ls (set ls i (line_of n s)) d d' h h' (waiting_new ls i (line_of n s) inside apart n refl)
+line_filled ls i n s inside apart free run =
+    put n s ls (set ls i (line_of n s)) _ _ _ _ (waiting_new ls i (line_of n s) inside apart n refl)
     (λ m ne. waiting_other ls i (line_of n s) inside apart m (λ e. ne (cc)) (free m ne)) run
 
 -- Line i is written below, and then comes to stand for block n.
-line_replaced : (ls : List Line) (i n : ℕ) (s : List ℕ) → i < length ls → Apart ls → Apart (set ls i (line_of n s)) → (d d' : List Shown) (h h' : Held) → Ran (waiting (line_at ls i)) d h d' h'
+line_replaced : (ls : List Line) (i n : ℕ) (s : List ℕ) → i < length ls → Apart ls → Apart (set ls i (line_of n s)) → {d d' : List Shown} {h h' : Held} → Ran (waiting (line_at ls i)) d h d' h'
     → CacheRan (write n s ∷ []) ls d h (set ls i (line_of n s)) d' h'
-line_replaced ls i n s inside apart apart' d d' h h' run =
+line_replaced ls i n s inside apart apart' {d' = d'} {h' = h'} run =
     let bare = set ls i empty_line in
     let twice = set-set ls i empty_line (line_of n s) in
-    let filled = line_filled bare i n s (rw length-set inside) (rw twice apart') (λ m ne e. cc (at_same ls i empty_line inside)) d' d' h' h' (ran_nothing d' h') in
-    ran-++ [] (write n s ∷ []) _ _ _ _ _ _ (line_emptied ls i inside apart d d' h h' run) (rw twice at filled)
+    let filled = line_filled bare i n s (rw length-set inside) (rw twice apart') (λ m ne e. cc (at_same ls i empty_line inside)) (ran_nothing d' h') in
+    ran-++ [] (write n s ∷ []) _ _ _ _ _ _ (line_emptied ls i inside apart run) (rw twice at filled)
 
 -- A write takes a line, after the one that makes room is written below.
-module _ (t : Table) (n : ℕ) (s : List ℕ) (d d' : List Shown) (h h' : Held) where
+module _ (t : Table) (n : ℕ) (s : List ℕ) {d d' : List Shown} {h h' : Held} where
   -- by the room that there is
   by_room : taken t n < length t.lines → Apart (lines_written t n s) → Ran (waiting (evicted t n)) d h d' h'
       → CacheRan (write n s ∷ []) t.lines d h (lines_written t n s) d' h'
   by_room =
       elim (search_for t.lines (Some n)) [
-        | inl f ↦ rw f.at (λ inside apart run. line_filled t.lines f.line n s inside apart (λ m ne e. let b = f.block in ne (cc)) d d' h h' run)
+        | inl f ↦ rw f.at (λ inside apart run. line_filled t.lines f.line n s inside apart (λ m ne e. let b = f.block in ne (cc)) run)
         | inr m ↦ elim (search_for t.lines None) [
-          | inl f ↦ rw (m.at, f.at) (λ inside apart run. line_filled t.lines f.line n s inside apart (λ k ne e. let b = f.block in cc) d d' h h' run)
-          | inr e ↦ rw (m.at, e.at) (λ inside apart run. line_replaced t.lines t.turn n s inside t.apart apart d d' h h' run)
+          | inl f ↦ rw (m.at, f.at) (λ inside apart run. line_filled t.lines f.line n s inside apart (λ k ne e. let b = f.block in cc) run)
+          | inr e ↦ rw (m.at, e.at) (λ inside apart run. line_replaced t.lines t.turn n s inside t.apart apart run)
         ]
       ]
 
@@ -163,16 +163,16 @@ module _ (t : Table) (n : ℕ) (s : List ℕ) (d d' : List Shown) (h h' : Held) 
   written = by_room (taken_within t n) (apart_set t.lines (taken t n) (line_of n s) (taken_within t n) t.apart (taken_only t n))
 
 -- The line for a block is dropped, if there is one, and an operation on the block passed on.
-pub dropped : (t : Table) (o : Op) (d d' : List Shown) (h h' : Held) → Ran (o ∷ []) d h d' h'
+pub dropped : (t : Table) (o : Op) {d d' : List Shown} {h h' : Held} → Ran (o ∷ []) d h d' h'
     → CacheRan (o ∷ []) t.lines d h (lines_without t (target o)) d' h'
-dropped t o d d' h h' run =
+dropped t o run =
     let ls = t.lines in
     elim (search_for ls (Some (target o))) [
       | inl f ↦
           rw f.at
-          (passed_on o ls (set ls f.line empty_line) d d' h h' (waiting_gone ls f.line (target o) f.within t.apart f.block)
+          (passed_on o ls (set ls f.line empty_line) _ _ _ _ (waiting_gone ls f.line (target o) f.within t.apart f.block)
           (λ n ne. same_but ls f.line f.within t.apart n (λ e. let b = f.block in ne (cc))) run)
-      | inr m ↦ rw m.at (passed_on o ls ls d d' h h' (waits_not ls (target o) (λ i e. m.none i (stands_within ls i (target o) e) e)) (λ n ne. refl) run)
+      | inr m ↦ rw m.at (passed_on o ls ls _ _ _ _ (waits_not ls (target o) (λ i e. m.none i (stands_within ls i (target o) e) e)) (λ n ne. refl) run)
     ]
 
 -- A cache with empty lines shows and holds what is shown and held below.
