@@ -73,8 +73,7 @@ abbrev SameBut : ℕ → List Line → List Line → Type 0
 SameBut b ls ls' = (n : ℕ) → (n ≡ b → ⊥) → waiting_for ls' n ≡ waiting_for ls n
 
 -- The line for a block is dropped and an operation on the block passed on.
-pub passed_on : (o : Op) (ls ls' : List Line) (d d' : List Shown) (h h' : Held) → waiting_for ls' (target o) ≡ None → SameBut (target o) ls ls' → Ran (o ∷ []) d h d' h'
-    → CacheRan (o ∷ []) ls d h ls' d' h'
+pub passed_on : (o : Op) (ls ls' : List Line) (d d' : List Shown) (h h' : Held) → waiting_for ls' (target o) ≡ None → SameBut (target o) ls ls' → Ran (o ∷ []) d h d' h' → CacheRan (o ∷ []) ls d h ls' d' h'
 passed_on o ls ls' d d' h h' gone same run = cache_ran (o ∷ []) ls ls' run (λ n c c' kept kept' below.
     elim (cases_eq n (target o)) [
       | inl e ↦
@@ -84,8 +83,7 @@ passed_on o ls ls' d d' h h' gone same run = cache_ran (o ∷ []) ls ls' run (λ
     ])
 
 -- A sector comes to wait for block n.
-pub put : (n : ℕ) (s : List ℕ) (ls ls' : List Line) (d d' : List Shown) (h h' : Held) → waiting_for ls' n ≡ Some s → SameBut n ls ls' → Ran [] d h d' h'
-    → CacheRan (write n s ∷ []) ls d h ls' d' h'
+pub put : (n : ℕ) (s : List ℕ) (ls ls' : List Line) (d d' : List Shown) (h h' : Held) → waiting_for ls' n ≡ Some s → SameBut n ls ls' → Ran [] d h d' h' → CacheRan (write n s ∷ []) ls d h ls' d' h'
 put b s ls ls' d d' h h' new same run = cache_ran (write b s ∷ []) ls ls' run (λ n c c' kept kept' below.
     elim (cases_eq n b) [
       | inl e ↦
@@ -95,8 +93,7 @@ put b s ls ls' d d' h h' new same run = cache_ran (write b s ∷ []) ls ls' run 
     ])
 
 -- The line that stands for a block is written below and emptied.
-written_back : (b : ℕ) (s : List ℕ) (ls ls' : List Line) (d d' : List Shown) (h h' : Held) → waiting_for ls b ≡ Some s → waiting_for ls' b ≡ None → SameBut b ls ls' → Ran (write b s ∷ []) d h d' h'
-    → CacheRan [] ls d h ls' d' h'
+written_back : (b : ℕ) (s : List ℕ) (ls ls' : List Line) (d d' : List Shown) (h h' : Held) → waiting_for ls b ≡ Some s → waiting_for ls' b ≡ None → SameBut b ls ls' → Ran (write b s ∷ []) d h d' h' → CacheRan [] ls d h ls' d' h'
 written_back b s ls ls' d d' h h' old gone same run = cache_ran [] ls ls' run (λ n c c' kept kept' below.
     elim (cases_eq n b) [
       | inl e ↦
@@ -106,8 +103,7 @@ written_back b s ls ls' d d' h h' old gone same run = cache_ran [] ls ls' run (�
     ])
 
 -- All lines are written below and emptied.
-pub all_written_back : (ls ls' : List Line) → Apart ls → ((n : ℕ) → waiting_for ls' n ≡ None) → {d d' : List Shown} {h h' : Held} → Ran (all_waiting ls) d h d' h'
-    → CacheRan [] ls d h ls' d' h'
+pub all_written_back : (ls ls' : List Line) → Apart ls → ((n : ℕ) → waiting_for ls' n ≡ None) → {d d' : List Shown} {h h' : Held} → Ran (all_waiting ls) d h d' h' → CacheRan [] ls d h ls' d' h'
 all_written_back ls ls' apart gone run = cache_ran [] ls ls' run (λ n c c' kept kept' below.
     let all = all_at ls apart n c kept in
     rw (gone n) (record { shows = below.shows ∙ all.0; holds = rw all.1 at below.holds }))
@@ -117,61 +113,51 @@ module _ (ls : List Line) (i : ℕ) (inside : i < length ls) (apart : Apart ls) 
   same_but : (n : ℕ) → (block_at ls i ≡ Some n → ⊥) → waiting_for (set ls i empty_line) n ≡ waiting_for ls n
   same_but n ne = waiting_other ls i empty_line inside (apart_empty ls i inside apart) n (λ f. cc) ne
 
-  emptied_as : (o : Option ℕ) → block_at ls i ≡ o → {d d' : List Shown} {h h' : Held} → Ran (waiting_in o (line_at ls i).bytes) d h d' h'
-      → CacheRan [] ls d h (set ls i empty_line) d' h'
-  emptied_as None e run = cache_ran [] ls (set ls i empty_line) run (λ n c c' kept kept' below. over_same (same_but n (λ f. cc)) below)
-  emptied_as (Some b) e run =
+  line_emptied : (o : Option ℕ) → block_at ls i ≡ o → {d d' : List Shown} {h h' : Held} → Ran (waiting_in o (line_at ls i).bytes) d h d' h' → CacheRan [] ls d h (set ls i empty_line) d' h'
+  line_emptied None e run = cache_ran [] ls (set ls i empty_line) run (λ n c c' kept kept' below. over_same (same_but n (λ f. cc)) below)
+  line_emptied (Some b) e run =
       written_back b (line_at ls i).bytes ls (set ls i empty_line) _ _ _ _ (waits_at ls apart i b e) (waiting_gone ls i b inside apart e) (λ n ne. same_but n (λ f. ne (cc))) run
-
-  pub line_emptied : {d d' : List Shown} {h h' : Held} → Ran (waiting (line_at ls i)) d h d' h'
-      → CacheRan [] ls d h (set ls i empty_line) d' h'
-  line_emptied run = emptied_as (block_at ls i) refl run
 
 -- Line i, which stands for no other block, comes to stand for block n.
 line_filled : (ls : List Line) (i n : ℕ) (s : List ℕ) → i < length ls → Apart (set ls i (line_of n s)) → ((m : ℕ) → (m ≡ n → ⊥) → block_at ls i ≡ Some m → ⊥)
-    → {d d' : List Shown} {h h' : Held} → Ran [] d h d' h'
-    → CacheRan (write n s ∷ []) ls d h (set ls i (line_of n s)) d' h'
+    → {d d' : List Shown} {h h' : Held} → Ran [] d h d' h' → CacheRan (write n s ∷ []) ls d h (set ls i (line_of n s)) d' h'
 line_filled ls i n s inside apart free run =
     put n s ls (set ls i (line_of n s)) _ _ _ _ (waiting_new ls i (line_of n s) inside apart n refl)
     (λ m ne. waiting_other ls i (line_of n s) inside apart m (λ e. ne (cc)) (free m ne)) run
 
 -- Line i is written below, and then comes to stand for block n.
-line_replaced : (ls : List Line) (i n : ℕ) (s : List ℕ) → i < length ls → Apart ls → Apart (set ls i (line_of n s)) → {d d' : List Shown} {h h' : Held} → Ran (waiting (line_at ls i)) d h d' h'
-    → CacheRan (write n s ∷ []) ls d h (set ls i (line_of n s)) d' h'
+line_replaced : (ls : List Line) (i n : ℕ) (s : List ℕ) → i < length ls → Apart ls → Apart (set ls i (line_of n s)) → {d d' : List Shown} {h h' : Held} → Ran (waiting (line_at ls i)) d h d' h' → CacheRan (write n s ∷ []) ls d h (set ls i (line_of n s)) d' h'
 line_replaced ls i n s inside apart apart' {d' = d'} {h' = h'} run =
     let bare = set ls i empty_line in
     let twice = set-set ls i empty_line (line_of n s) in
     let filled = line_filled bare i n s (rw length-set inside) (rw twice apart') (λ m ne e. cc (at_same ls i empty_line inside)) (ran_nothing d' h') in
-    ran-++ [] (write n s ∷ []) _ _ _ _ _ _ (line_emptied ls i inside apart run) (rw twice at filled)
+    ran-++ [] (write n s ∷ []) _ _ _ _ _ _ (line_emptied ls i inside apart (block_at ls i) refl run) (rw twice at filled)
 
 -- A write takes a line, after the one that makes room is written below.
 module _ (t : Table) (n : ℕ) (s : List ℕ) {d d' : List Shown} {h h' : Held} where
   -- by the room that there is
-  by_room : taken t n < length t.lines → Apart (lines_written t n s) → Ran (waiting (evicted t n)) d h d' h'
-      → CacheRan (write n s ∷ []) t.lines d h (lines_written t n s) d' h'
+  by_room : taken t n < length t.lines → Apart (lines_written t n s) → Ran (waiting (evicted t n)) d h d' h' → CacheRan (write n s ∷ []) t.lines d h (lines_written t n s) d' h'
   by_room =
       elim (search_for t.lines (Some n)) [
-        | inl f ↦ rw f.at (λ inside apart run. line_filled t.lines f.line n s inside apart (λ m ne e. let b = f.block in ne (cc)) run)
+        | inl f ↦ rw f.at (λ inside apart run. line_filled t.lines f.line n s inside apart (λ m ne e. ne (cc)) run)
         | inr m ↦ elim (search_for t.lines None) [
-          | inl f ↦ rw (m.at, f.at) (λ inside apart run. line_filled t.lines f.line n s inside apart (λ k ne e. let b = f.block in cc) run)
+          | inl f ↦ rw (m.at, f.at) (λ inside apart run. line_filled t.lines f.line n s inside apart (λ k ne e. cc) run)
           | inr e ↦ rw (m.at, e.at) (λ inside apart run. line_replaced t.lines t.turn n s inside t.apart apart run)
         ]
       ]
 
-  pub written : Ran (waiting (evicted t n)) d h d' h'
-      → CacheRan (write n s ∷ []) t.lines d h (lines_written t n s) d' h'
+  pub written : Ran (waiting (evicted t n)) d h d' h' → CacheRan (write n s ∷ []) t.lines d h (lines_written t n s) d' h'
   written = by_room (taken_within t n) (apart_set t.lines (taken t n) (line_of n s) (taken_within t n) t.apart (taken_only t n))
 
 -- The line for a block is dropped, if there is one, and an operation on the block passed on.
-pub dropped : (t : Table) (o : Op) {d d' : List Shown} {h h' : Held} → Ran (o ∷ []) d h d' h'
-    → CacheRan (o ∷ []) t.lines d h (lines_without t (target o)) d' h'
+pub dropped : (t : Table) (o : Op) {d d' : List Shown} {h h' : Held} → Ran (o ∷ []) d h d' h' → CacheRan (o ∷ []) t.lines d h (lines_without t (target o)) d' h'
 dropped t o run =
     let ls = t.lines in
     elim (search_for ls (Some (target o))) [
       | inl f ↦
           rw f.at
           (passed_on o ls (set ls f.line empty_line) _ _ _ _ (waiting_gone ls f.line (target o) f.within t.apart f.block)
-          (λ n ne. same_but ls f.line f.within t.apart n (λ e. let b = f.block in ne (cc))) run)
+          (λ n ne. same_but ls f.line f.within t.apart n (λ e. ne (cc))) run)
       | inr m ↦ rw m.at (passed_on o ls ls _ _ _ _ (waits_not ls (target o) (λ i e. m.none i (stands_within ls i (target o) e) e)) (λ n ne. refl) run)
     ]
 

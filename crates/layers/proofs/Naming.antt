@@ -24,7 +24,7 @@ kept_over (Some s) c kept x b (inr m) = inr (kept_joined c kept x m)
 
 -- a block of a mirror, by what its sides show
 first_kept : (a b : Shown) (ka kb : List (List ℕ)) (x : List ℕ) → (a ≡ sector x) ⊎ (x ∈ ka) → (pick a b ≡ sector x) ⊎ (x ∈ held_both a b ka kb)
-first_kept a b ka kb x (inl e) = inl (ap (λ (c : Shown). pick c b) e)
+first_kept a b ka kb x (inl e) = inl (rw e)
 first_kept a b ka kb x (inr m) = inr (in_first a b ka kb x m)
 
 second_kept : (a b : Shown) (ka kb : List (List ℕ)) (x : List ℕ) → is_blank x ≡ false → (b ≡ sector x) ⊎ (x ∈ kb) → (pick a b ≡ sector x) ⊎ (x ∈ held_both a b ka kb)
@@ -32,30 +32,18 @@ second_kept a b ka kb x n (inl e) = elim (seen a b x e n) [ inl p ↦ inl p | in
 second_kept a b ka kb x n (inr m) = inr (in_second a b ka kb x m)
 
 pub cache_named : {D : Type 0} (g : Ghosts D) (c : Cache D) → CacheNamed g c
-cache_named g c = record { below = below; waits = waits } where
-  ls : List Line
-  ls = c.table.lines
-
-  d : List Shown
-  d = g.shown c.below
-
-  below : (n : ℕ) → n < length d → (x : List ℕ) → is_blank x ≡ false → Keeps g c.below n x → Keeps (cached g) c n x
-  below n l x b k = rw (cache_at ls d n l) (kept_over (waiting_for ls n) (shown_at d n) (g.held c.below n) x b k)
-
-  waits : (i n : ℕ) → n < length d → block_at ls i ≡ Some n → Keeps (cached g) c n (line_at ls i).bytes
-  waits i n l e = inl (cache_at ls d n l ∙ ap (λ (w : Option (List ℕ)). shown_over w (shown_at d n)) (waits_at ls c.table.apart i n e))
+cache_named g c =
+    record {
+      below = λ n l x b kept. rw cache_at (kept_over (waiting_for c.table.lines n) _ _ x b kept);
+      waits = λ i n l e. inl (rw (cache_at, waits_at c.table.lines c.table.apart i n e));
+    }
 
 pub mirror_named : {A B : Type 0} (g : Ghosts A) (k : Ghosts B) (m : Mirror A B) → MirrorNamed g k m
 mirror_named g k m =
     record {
-      first = λ n l x b kept. rw (mirror_at a b' n l) (first_kept (shown_at a n) (shown_at b' n) (g.held m.a n) (k.held m.b n) x kept);
-      second = λ n l x b kept. rw (mirror_at a b' n l) (second_kept (shown_at a n) (shown_at b' n) (g.held m.a n) (k.held m.b n) x b kept);
-    } where
-      a : List Shown
-      a = g.shown m.a
-
-      b' : List Shown
-      b' = k.shown m.b
+      first = λ n l x b kept. rw mirror_at (first_kept _ _ _ _ x kept);
+      second = λ n l x b kept. rw mirror_at (second_kept _ _ _ _ x b kept);
+    }
 
 -- A block that a cache over a mirror has wiped is wiped on both sides.
 pub wiped_both : {A B : Type 0} (g : Ghosts A) (k : Ghosts B) (n : ℕ) (c c' : Cache (Mirror A B)) → Effect (cached (mirrored g k)) (wipe n ∷ []) c c' → n < length ((cached (mirrored g k)).shown c)
@@ -65,10 +53,7 @@ wiped_both g k n c c' run l = (λ x b kept. gone x b (sides.first n here x b kep
   sides = mirror_named g k c'.below
 
   here : n < length ((mirrored g k).shown c'.below)
-  here =
-      omega (arith, l, ap length run.shows, count_after_all (wipe n ∷ []) ((cached (mirrored g k)).shown c), cache_count c'.table.lines ((mirrored g k).shown c'.below))
+  here = omega (arith, ap length run.shows, count_after_all (wipe n ∷ []) ((cached (mirrored g k)).shown c), cache_count c'.table.lines ((mirrored g k).shown c'.below))
 
   gone : KeepsNothing (mirrored g k) c'.below n
-  gone x b kept =
-      wiped n ((cached (mirrored g k)).shown c) ((cached (mirrored g k)).shown c') ((cached (mirrored g k)).held c) ((cached (mirrored g k)).held c') run l x b
-      ((cache_named (mirrored g k) c').below n here x b kept)
+  gone x b kept = wiped n _ _ _ _ run l x b ((cache_named (mirrored g k) c').below n here x b kept)
