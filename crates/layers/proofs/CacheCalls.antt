@@ -1,9 +1,9 @@
 -- The calls of a cache, by what becomes of its lines and of the device below.
-use Rattle.std.proofs.Common.{◌≡◌, ℕ, ◌<◌, List, [], ◌∷◌, length, replicate, Some, None, Option, sym, ap, ◌∙◌, subst, arith}
+use Rattle.std.proofs.Common.{◌≡◌, ℕ, ◌<◌, List, [], ◌∷◌, length, replicate, Some, None, Option, sym, arith}
 use Rattle.device.specs.Blocks.{Shown, sector, shown_at, Held}
 use Rattle.device.specs.Answers.{accepted, read_answer, read_buffer}
 use Rattle.device.specs.Operations.{Op, write, target, Ran}
-use Rattle.device.proofs.Answers.{read_within, read_same, buffer_within, buffer_same}
+use Rattle.device.proofs.Answers.{read_within, read_same}
 use Rattle.lines.specs.declared.line.Line.{Line}
 use Rattle.lines.specs.declared.table.Table.{Table}
 use Rattle.lines.specs.Lines.{empty_line, waiting_for, waiting, all_waiting}

@@ -1,17 +1,16 @@
 -- What a cache shows and holds, as its lines and the device below change.
-use Rattle.std.proofs.Common.{◌≡◌, ℕ, zero, suc, ◌+◌, ◌<◌, List, [], ◌∷◌, length, set, add-zero, zero-add, Some, None, Option, unwrap_or, sym, refl, ap, ◌∙◌, subst, ap₂, inl, inr, arith}
+use Rattle.std.proofs.Common.{◌≡◌, ℕ, zero, suc, ◌+◌, ◌<◌, List, [], ◌∷◌, length, set, add-zero, zero-add, Some, None, Option, sym, refl, ap, ◌∙◌, inl, inr, arith}
 use Rattle.std.proofs.lemmas.List.{set-set, length-set}
 use Rattle.std.proofs.lemmas.Bool.{cases_eq}
-use Rattle.std.specs.Option.{option_or}
 use Rattle.device.specs.Blocks.{Shown, sector, shown_at, Held}
 use Rattle.device.specs.Operations.{Op, write, wipe, lose, target, joined, left_by, Ran}
 use Rattle.device.proofs.Operations.{Among, kept_joined, joined_among, BlockRan, block_ran, ran_by_block, block_untouched, block_elsewhere, block_here, block_changed, count_after_all, ran_nothing, ran-++}
 use Rattle.lines.specs.declared.line.Line.{Line}
 use Rattle.lines.specs.declared.table.Table.{Table}
-use Rattle.lines.specs.Lines.{empty_line, line_of, line_at, block_at, Apart, position, waiting, waiting_in, all_waiting, waiting_for}
-use Rattle.lines.specs.Tables.{room, taken, leaving, lines_written, evicted, emptied, lines_without}
+use Rattle.lines.specs.Lines.{empty_line, line_of, line_at, block_at, Apart, waiting, waiting_in, all_waiting, waiting_for}
+use Rattle.lines.specs.Tables.{taken, lines_written, evicted, lines_without}
 use Rattle.layers.specs.Caching.{shown_over, held_over, shown_from, cache_shown, cache_held}
-use Rattle.lines.proofs.Lines.{search_for, stands_within, at_same, taken_within, taken_only, apart_set, apart_empty, some_not_none}
+use Rattle.lines.proofs.Lines.{search_for, stands_within, at_same, taken_within, taken_only, apart_set, apart_empty}
 use Rattle.layers.proofs.Waiting.{waits_at, waits_not, waiting_other, waiting_new, waiting_gone, all_at}
 
 -- as many blocks as below

@@ -1,9 +1,9 @@
 -- A read of a mirror: from the first side, or from the second where the block is lost on the first.
-use Rattle.std.proofs.Common.{◌≡◌, ℕ, ◌<◌, List, [], length, sym, ap, ◌∙◌}
+use Rattle.std.proofs.Common.{◌≡◌, ℕ, ◌<◌, List, [], length, ◌∙◌}
 use Rattle.device.specs.Blocks.{Shown, lost, shown_at}
 use Rattle.device.specs.Answers.{accepted, refused, read_answer, read_buffer}
-use Rattle.device.proofs.Answers.{read_accepted, read_refused, buffer_within, read_same, buffer_same}
-use Rattle.layers.specs.Mirroring.{pick, mirror_shown}
+use Rattle.device.proofs.Answers.{read_accepted, read_refused, read_same, buffer_same}
+use Rattle.layers.specs.Mirroring.{mirror_shown}
 use Rattle.layers.proofs.MirrorRuns.{mirror_at, within_both}
 
 -- the first side answers

@@ -1,11 +1,11 @@
 -- What a mirror shows and holds, as its sides change.
-use Rattle.std.proofs.Common.{◌≡◌, ℕ, zero, suc, ◌<◌, min, true, false, cond, eqb, ◌⊎◌, List, [], ◌∷◌, ◌++◌, length, sym, refl, ap, ◌∙◌, subst, ap₂, inl, inr, arith}
+use Rattle.std.proofs.Common.{◌≡◌, ℕ, zero, suc, ◌<◌, min, false, eqb, ◌⊎◌, List, [], ◌∷◌, ◌++◌, length, refl, ap, ◌∙◌, ap₂, inl, inr, arith}
 use mathlib.Core.List.Memᴰ
 use Rattle.std.proofs.lemmas.Slice.Eq.{bytes_eq-Decides}
-use Rattle.std.proofs.lemmas.Bool.{cases_Bool, cond-true, cond-false}
+use Rattle.std.proofs.lemmas.Bool.{cases_Bool}
 use Rattle.std.specs.Str.{bytes_eq}
 use Rattle.device.specs.Blocks.{Shown, lost, sector, shown_at, Held, ◌∈◌, is_blank}
-use Rattle.device.specs.Operations.{Op, write, wipe, lose, target, result, block_after, joined, left_by, may_hold, block_after_all, may_hold_all, Ran}
+use Rattle.device.specs.Operations.{Op, write, wipe, lose, target, result, block_after, joined, left_by, may_hold, block_after_all, Ran}
 use Rattle.device.proofs.Operations.{Among, kept_joined, to_joined, from_joined, may_hold_all_among, BlockRan, block_ran, ran_by_block, count_after_all}
 use Rattle.layers.specs.Mirroring.{pick, mirror_shown, hidden, held_both, mirror_held}
 

@@ -1,15 +1,15 @@
 -- A block of a mirror repaired: both sides show what the mirror shows, and nothing more is held.
-use Rattle.std.proofs.Common.{◌≡◌, ℕ, ◌<◌, true, false, ◌⊎◌, List, [], ◌∷◌, length, sym, refl, ap, ◌∙◌, subst, inl, inr, arith}
+use Rattle.std.proofs.Common.{◌≡◌, ℕ, false, ◌⊎◌, List, [], ◌∷◌, sym, refl, ap, ◌∙◌, inl, inr}
 use Rattle.std.proofs.lemmas.Slice.Eq.{bytes_eq-Decides}
-use Rattle.std.proofs.lemmas.Bool.{both_ways, cases_Bool, cases_eq, cond-true, cond-false}
+use Rattle.std.proofs.lemmas.Bool.{both_ways, cases_Bool, cases_eq}
 use Rattle.std.specs.Str.{bytes_eq}
 use Rattle.device.specs.Blocks.{Shown, lost, sector, shown_at, Held, ◌∈◌, is_blank}
-use Rattle.device.specs.Answers.{accepted, read_block, read_answer, read_buffer}
-use Rattle.device.specs.Operations.{Op, write, Ran}
-use Rattle.device.proofs.Answers.{accepted_within, read_accepted}
-use Rattle.device.proofs.Operations.{Among, from_joined, BlockRan, block_ran, block_untouched, block_changed, count_after_all, ran-++}
+use Rattle.device.specs.Answers.{accepted, read_answer, read_buffer}
+use Rattle.device.specs.Operations.{write, Ran}
+use Rattle.device.proofs.Answers.{read_accepted}
+use Rattle.device.proofs.Operations.{Among, from_joined, BlockRan, block_untouched, block_changed, ran-++}
 use Rattle.layers.specs.Mirroring.{pick, mirror_shown, held_both, mirror_held, shows_sector, mending, repairing}
-use Rattle.layers.proofs.MirrorRuns.{mirror_at, within_both, Both, mirror_ran, both_ran, seen, in_first, in_second, in_hidden, parts_same}
+use Rattle.layers.proofs.MirrorRuns.{mirror_at, Both, mirror_ran, both_ran, seen, in_first, in_second, in_hidden, parts_same}
 
 -- a side is written, or it shows the sector already
 mending_cases : (n : ℕ) (s : List ℕ) (c : Shown) → ((mending n s c ≡ []) × (c ≡ sector s)) ⊎ ((mending n s c ≡ write n s ∷ []) × (c ≡ sector s → ⊥))

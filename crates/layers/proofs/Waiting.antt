@@ -1,6 +1,6 @@
 -- The sector that waits for a block, as the lines change.
-use Rattle.std.proofs.Common.{◌≡◌, ℕ, zero, suc, ◌<◌, false, eqb, List, [], ◌∷◌, length, set, Some, None, Option, sym, refl, ap, ◌∙◌, ap₂, inl, inr, arith}
-use Rattle.std.proofs.lemmas.Bool.{cases_Bool, cond-true, cond-false, eq-eqb, ne_eqb}
+use Rattle.std.proofs.Common.{◌≡◌, ℕ, zero, suc, ◌<◌, false, List, [], ◌∷◌, length, set, Some, None, Option, refl, inl, inr}
+use Rattle.std.proofs.lemmas.Bool.{cases_Bool, eq-eqb, ne_eqb}
 use Rattle.std.specs.Option.{option_map}
 use Rattle.lines.specs.declared.line.Line.{Line}
 use Rattle.device.specs.Blocks.{Shown, sector}
@@ -8,7 +8,7 @@ use Rattle.device.specs.Operations.{joined, block_after_all, may_hold_all}
 use Rattle.device.proofs.Operations.{block_after_all-++, may_hold_all-++}
 use Rattle.lines.specs.Lines.{empty_line, line_at, block_at, same_block, Apart, position, waiting, waiting_in, all_waiting, waiting_for}
 use Rattle.layers.specs.Caching.{shown_over, held_over}
-use Rattle.lines.proofs.Lines.{same_is, is_same, differ, search_for, stands_within, some_not_none, once, at_same, at_other, came_from}
+use Rattle.lines.proofs.Lines.{same_is, differ, search_for, stands_within, once, at_same, at_other, came_from}
 
 -- where one line stands for n, its sector waits
 pub waits_at : (ls : List Line) → Apart ls → (i n : ℕ) → block_at ls i ≡ Some n → waiting_for ls n ≡ Some (line_at ls i).bytes
