@@ -4,13 +4,14 @@ use Rattle.std.proofs.lemmas.List.{set-set, length-set}
 use Rattle.std.proofs.lemmas.Bool.{cases_eq}
 use Rattle.device.specs.Blocks.{Shown, sector, shown_at, Held}
 use Rattle.device.specs.Operations.{Op, write, wipe, lose, target, joined, left_by, Ran}
-use Rattle.device.proofs.Operations.{Among, kept_joined, joined_among, BlockRan, block_ran, ran_by_block, block_untouched, block_elsewhere, block_here, block_changed, count_after_all, ran_nothing, ran-++}
+use Rattle.device.proofs.Operations.{Among, kept_joined, to_joined, joined_among, BlockRan, block_ran, ran_by_block, block_untouched, block_elsewhere, block_here, block_changed, count_after_all, ran_nothing, ran-++}
 use Rattle.lines.specs.declared.line.Line.{Line}
 use Rattle.lines.specs.declared.table.Table.{Table}
 use Rattle.lines.specs.Lines.{empty_line, line_of, line_at, block_at, Apart, waiting, waiting_in, all_waiting, waiting_for}
 use Rattle.lines.specs.Tables.{taken, lines_written, evicted, lines_without}
 use Rattle.layers.specs.Caching.{shown_over, held_over, shown_from, cache_shown, cache_held}
 use Rattle.lines.proofs.Lines.{search_for, stands_within, at_same, taken_within, taken_only, apart_set, apart_empty}
+use Rattle.layers.proofs.Kept.{KeptBy, left_more}
 use Rattle.layers.proofs.Waiting.{waits_at, waits_not, waiting_other, waiting_new, waiting_gone, all_at}
 
 -- as many blocks as below
@@ -52,12 +53,10 @@ held_among : {n : ℕ} {c c' : Shown} {kept kept' : List (List ℕ)} (w : Option
 held_among None run = run.holds
 held_among {c = c} {kept = kept} {kept' = kept'} (Some s) run = rw run.shows (joined_among c kept' kept run.holds)
 
--- an operation leaves no more of a block below than of the cache's
-left_more : (o : Op) (w : Option (List ℕ)) (c : Shown) (kept : List (List ℕ)) → Among (left_by o c kept) (left_by o (shown_over w c) (held_over w c kept))
-left_more o None c kept s m = m
-left_more (write n x) (Some y) c kept s m = kept_joined (sector y) (joined c kept) s m
-left_more (wipe n) (Some y) c kept s m = m
-left_more (lose n) (Some y) c kept s m = kept_joined (sector y) (joined c kept) s m
+-- what is kept below is kept by the cache
+pub kept_below : (w : Option (List ℕ)) (c : Shown) (kept : List (List ℕ)) → KeptBy c kept (shown_over w c) (held_over w c kept)
+kept_below None c kept = record { holds = λ s m. m; shows = λ s b e. inl e }
+kept_below (Some x) c kept = record { holds = kept_joined c kept; shows = λ s b e. inr (to_joined c kept s e b) }
 
 -- a block for which the same waits as before, and which nothing changes below
 over_same : {n : ℕ} {w w' : Option (List ℕ)} {c c' : Shown} {kept kept' : List (List ℕ)} → w' ≡ w → BlockRan [] n c kept c' kept' → Over [] n w c kept w' c' kept'
@@ -77,7 +76,7 @@ passed_on o ls ls' d d' h h' gone same run = cache_ran (o ∷ []) ls ls' run (λ
     elim (cases_eq n (target o)) [
       | inl e ↦
           (let b = block_changed o n e c kept c' kept' below in
-          rw (ap (waiting_for ls') e ∙ gone) (block_here o n e _ _ _ _ b.0 (λ s m. left_more o (waiting_for ls n) c kept s (b.1 s m))))
+          rw (ap (waiting_for ls') e ∙ gone) (block_here o n e _ _ _ _ b.0 (λ s m. left_more (kept_below (waiting_for ls n) c kept) o s (b.1 s m))))
       | inr ne ↦ block_elsewhere o n ne _ _ _ _ (over_same (same n ne) (block_untouched o n ne c kept c' kept' below))
     ])
 
@@ -87,7 +86,7 @@ put b s ls ls' d d' h h' new same run = cache_ran (write b s ∷ []) ls ls' run 
     elim (cases_eq n b) [
       | inl e ↦
           rw (ap (waiting_for ls') e ∙ new)
-          (block_here (write b s) n e _ _ _ _ refl (λ x m. left_more (write b s) (waiting_for ls n) c kept x (held_among (Some s) below x m)))
+          (block_here (write b s) n e _ _ _ _ refl (λ x m. left_more (kept_below (waiting_for ls n) c kept) (write b s) x (held_among (Some s) below x m)))
       | inr ne ↦ block_elsewhere (write b s) n ne _ _ _ _ (over_same (same n ne) below)
     ])
 

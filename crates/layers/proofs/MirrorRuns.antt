@@ -8,6 +8,7 @@ use Rattle.device.specs.Blocks.{Shown, lost, sector, shown_at, Held, ◌∈◌, 
 use Rattle.device.specs.Operations.{Op, write, wipe, lose, target, result, block_after, joined, left_by, may_hold, block_after_all, Ran}
 use Rattle.device.proofs.Operations.{Among, kept_joined, to_joined, from_joined, may_hold_all_among, BlockRan, block_ran, ran_by_block, count_after_all}
 use Rattle.layers.specs.Mirroring.{pick, mirror_shown, hidden, held_both, mirror_held}
+use Rattle.layers.proofs.Kept.{KeptBy, left_more}
 
 -- as many blocks as the smaller side has
 pub mirror_count : (a b : List Shown) → length (mirror_shown a b) ≡ min (length a) (length b)
@@ -33,8 +34,12 @@ hidden_same : (c : Shown) → hidden c c ≡ []
 hidden_same lost = refl
 hidden_same (sector s) = rw ((bytes_eq-Decides s s).1 refl)
 
+-- of two sides that show the same, nothing is hidden
+pub none_hidden : (a b : Shown) {xs : List (List ℕ)} → a ≡ b → Among (hidden a b) xs
+none_hidden a b e s m = absurd (Memᴰ.not-nil (rw (e, hidden_same) at m))
+
 -- what the second side shows is shown by the mirror or hidden
-pub seen : (a b : Shown) (s : List ℕ) → b ≡ sector s → is_blank s ≡ false → (pick a b ≡ sector s) ⊎ (s ∈ hidden a b)
+seen : (a b : Shown) (s : List ℕ) → b ≡ sector s → is_blank s ≡ false → (pick a b ≡ sector s) ⊎ (s ∈ hidden a b)
 seen lost b s e n = inl e
 seen (sector x) b s e n =
     elim (cases_Bool (bytes_eq x s)) [
@@ -43,62 +48,21 @@ seen (sector x) b s e n =
     ]
 
 -- the three parts of what a mirror holds
-module _ (a b : Shown) (ka kb : List (List ℕ)) (s : List ℕ) where
-  pub in_first : s ∈ ka → s ∈ held_both a b ka kb
-  in_first m = Memᴰ.append_left (hidden a b) (Memᴰ.append_left kb m)
+module _ (a b : Shown) (ka kb : List (List ℕ)) where
+  pub in_hidden : Among (hidden a b) (held_both a b ka kb)
+  in_hidden s m = Memᴰ.append_right (ka ++ kb) m
 
-  pub in_second : s ∈ kb → s ∈ held_both a b ka kb
-  in_second m = Memᴰ.append_left (hidden a b) (Memᴰ.append_right ka m)
+  pub held_within : {xs : List (List ℕ)} → Among ka xs → Among kb xs → Among (hidden a b) xs → Among (held_both a b ka kb) xs
+  held_within first second third s m =
+      elim (Memᴰ.append_cases (ka ++ kb) m) [ inl k ↦ elim (Memᴰ.append_cases ka k) [ inl i ↦ first s i | inr i ↦ second s i ] | inr k ↦ third s k ]
 
-  pub in_hidden : s ∈ hidden a b → s ∈ held_both a b ka kb
-  in_hidden m = Memᴰ.append_right (ka ++ kb) m
+  -- what the first side keeps, the mirror keeps
+  pub first_kept : KeptBy a ka (pick a b) (held_both a b ka kb)
+  first_kept = record { holds = λ s m. Memᴰ.append_left (hidden a b) (Memᴰ.append_left kb m); shows = λ s n e. inl (rw e) }
 
-  pub parts : s ∈ held_both a b ka kb → (s ∈ ka) ⊎ ((s ∈ kb) ⊎ (s ∈ hidden a b))
-  parts m = elim (Memᴰ.append_cases (ka ++ kb) m) [ inl k ↦ elim (Memᴰ.append_cases ka k) [ inl i ↦ inl i | inr i ↦ inr (inl i) ] | inr k ↦ inr (inr k) ]
-
--- of two sides that show the same, nothing is hidden
-pub parts_same : (a b : Shown) (ka kb : List (List ℕ)) (s : List ℕ) → a ≡ b → s ∈ held_both a b ka kb → (s ∈ ka) ⊎ (s ∈ kb)
-parts_same a b ka kb s e m =
-    elim (parts a b ka kb s m) [
-      | inl k ↦ inl k
-      | inr k ↦ elim k [ inl i ↦ inr i | inr i ↦ absurd (Memᴰ.not-nil (rw (e, hidden_same) at i)) ]
-    ]
-
-both_among : (a b : Shown) (ka kb ka' kb' : List (List ℕ)) → Among ka' ka → Among kb' kb → Among (held_both a b ka' kb') (held_both a b ka kb)
-both_among a b ka kb ka' kb' first second s m =
-    elim (parts a b ka' kb' s m) [
-      | inl k ↦ in_first a b ka kb s (first s k)
-      | inr k ↦ elim k [ inl i ↦ in_second a b ka kb s (second s i) | inr i ↦ in_hidden a b ka kb s i ]
-    ]
-
--- what joins on a side joins on the mirror, or was held there already
-pub joined_first : (a b : Shown) (ka kb : List (List ℕ)) → Among (joined a ka) (joined (pick a b) (held_both a b ka kb))
-joined_first a b ka kb s m =
-    elim (from_joined a ka s m) [
-      | inl k ↦ kept_joined (pick a b) (held_both a b ka kb) s (in_first a b ka kb s k)
-      | inr e ↦ to_joined (pick a b) (held_both a b ka kb) s (rw e.0) e.1
-    ]
-
-pub joined_second : (a b : Shown) (ka kb : List (List ℕ)) → Among (joined b kb) (joined (pick a b) (held_both a b ka kb))
-joined_second a b ka kb s m =
-    elim (from_joined b kb s m) [
-      | inl k ↦ kept_joined (pick a b) (held_both a b ka kb) s (in_second a b ka kb s k)
-      | inr e ↦ elim (seen a b s e.0 e.1) [
-        | inl p ↦ to_joined (pick a b) (held_both a b ka kb) s p e.1
-        | inr i ↦ kept_joined (pick a b) (held_both a b ka kb) s (in_hidden a b ka kb s i)
-      ]
-    ]
-
--- an operation on the block leaves no more on a side than on the mirror
-left_first : (o : Op) (a b : Shown) (ka kb : List (List ℕ)) → Among (left_by o a ka) (left_by o (pick a b) (held_both a b ka kb))
-left_first (write n x) a b ka kb = joined_first a b ka kb
-left_first (wipe n) a b ka kb = λ s m. m
-left_first (lose n) a b ka kb = joined_first a b ka kb
-
-left_second : (o : Op) (a b : Shown) (ka kb : List (List ℕ)) → Among (left_by o b kb) (left_by o (pick a b) (held_both a b ka kb))
-left_second (write n x) a b ka kb = joined_second a b ka kb
-left_second (wipe n) a b ka kb = λ s m. m
-left_second (lose n) a b ka kb = joined_second a b ka kb
+  -- and what the second keeps: it is shown, or held, or hidden
+  pub second_kept : KeptBy b kb (pick a b) (held_both a b ka kb)
+  second_kept = record { holds = λ s m. Memᴰ.append_left (hidden a b) (Memᴰ.append_right ka m); shows = λ s n e. elim (seen a b s e n) [ inl p ↦ inl p | inr m ↦ inr (in_hidden s m) ] }
 
 -- What happens to a block of the mirror, by what its sides show and hold.
 abbrev pub Both : List Op → ℕ → Shown → List (List ℕ) → Shown → List (List ℕ) → Shown → List (List ℕ) → Shown → List (List ℕ) → Type 0
@@ -110,7 +74,7 @@ one_after o n a b ka kb =
     elim (cases_Bool (eqb n (target o))) [
       | inl t ↦ record {
         shows = rw t (pick_same (result o));
-        holds = rw t (λ s m. elim (parts_same (result o) (result o) (left_by o a ka) (left_by o b kb) s refl m) [ inl k ↦ left_first o a b ka kb s k | inr k ↦ left_second o a b ka kb s k ]);
+        holds = rw t (held_within (result o) (result o) _ _ (left_more (first_kept a b ka kb) o) (left_more (second_kept a b ka kb) o) (none_hidden (result o) (result o) refl));
       }
       | inr f ↦ record { shows = rw f; holds = rw f (λ s m. m) }
     ]
@@ -122,7 +86,7 @@ after_first run = record { shows = run.shows; holds = run.holds }
 -- the same operations on both sides, one after the other
 pub both_ran : (os : List Op) {n : ℕ} {a b a' b' : Shown} {ka kb ka' kb' : List (List ℕ)} → BlockRan os n a ka a' ka' → BlockRan os n b kb b' kb' → Both os n a ka b kb a' ka' b' kb'
 both_ran [] {n} {a} {b} {a'} {b'} {ka} {kb} {ka'} {kb'} first second =
-    record { shows = ap₂ pick first.shows second.shows; holds = λ s m. both_among a b ka kb ka' kb' first.holds second.holds s (rw (first.shows, second.shows) at m) }
+    record { shows = ap₂ pick first.shows second.shows; holds = rw (first.shows, second.shows) (held_within a b ka' kb' (λ s m. (first_kept a b ka kb).holds s (first.holds s m)) (λ s m. (second_kept a b ka kb).holds s (second.holds s m)) (in_hidden a b ka kb)) }
 both_ran (o ∷ os) {n} {a} {b} {ka = ka} {kb = kb} first second =
     let one = one_after o n a b ka kb in
     let rest = both_ran os (after_first first) (after_first second) in

@@ -11,37 +11,23 @@ use Rattle.layers.specs.declared.mirror.Mirror.{Mirror}
 use Rattle.lines.specs.Lines.{waiting_for}
 use Rattle.layers.specs.Caching.{shown_over, held_over, cached, CacheNamed}
 use Rattle.layers.specs.Mirroring.{pick, held_both, mirrored, MirrorNamed}
-use Rattle.layers.proofs.CacheRuns.{cache_at, cache_count}
+use Rattle.layers.proofs.Kept.{keeps}
+use Rattle.layers.proofs.CacheRuns.{cache_at, cache_count, kept_below}
 use Rattle.layers.proofs.Waiting.{waits_at}
-use Rattle.layers.proofs.MirrorRuns.{mirror_at, seen, in_first, in_second, in_hidden}
-
--- a block of a cache, by what waits for it
-kept_over : (w : Option (List ℕ)) (c : Shown) (kept : List (List ℕ)) (x : List ℕ) → is_blank x ≡ false → (c ≡ sector x) ⊎ (x ∈ kept) → (shown_over w c ≡ sector x) ⊎ (x ∈ held_over w c kept)
-kept_over None c kept x b k = k
-kept_over (Some s) c kept x b (inl e) = inr (to_joined c kept x e b)
-kept_over (Some s) c kept x b (inr m) = inr (kept_joined c kept x m)
-
--- a block of a mirror, by what its sides show
-first_kept : (a b : Shown) (ka kb : List (List ℕ)) (x : List ℕ) → (a ≡ sector x) ⊎ (x ∈ ka) → (pick a b ≡ sector x) ⊎ (x ∈ held_both a b ka kb)
-first_kept a b ka kb x (inl e) = inl (rw e)
-first_kept a b ka kb x (inr m) = inr (in_first a b ka kb x m)
-
-second_kept : (a b : Shown) (ka kb : List (List ℕ)) (x : List ℕ) → is_blank x ≡ false → (b ≡ sector x) ⊎ (x ∈ kb) → (pick a b ≡ sector x) ⊎ (x ∈ held_both a b ka kb)
-second_kept a b ka kb x n (inl e) = elim (seen a b x e n) [ inl p ↦ inl p | inr m ↦ inr (in_hidden a b ka kb x m) ]
-second_kept a b ka kb x n (inr m) = inr (in_second a b ka kb x m)
+use Rattle.layers.proofs.MirrorRuns.{mirror_at, first_kept, second_kept}
 
 pub cache_named : {D : Type 0} (g : Ghosts D) (c : Cache D) → CacheNamed g c
 cache_named g c =
     record {
-      below = λ n l x b kept. rw cache_at (kept_over (waiting_for c.table.lines n) _ _ x b kept);
+      below = λ n l x b kept. rw cache_at (keeps (kept_below (waiting_for c.table.lines n) _ _) x b kept);
       waits = λ i n l e. inl (rw (cache_at, waits_at c.table.lines c.table.apart i n e));
     }
 
 pub mirror_named : {A B : Type 0} (g : Ghosts A) (k : Ghosts B) (m : Mirror A B) → MirrorNamed g k m
 mirror_named g k m =
     record {
-      first = λ n l x b kept. rw mirror_at (first_kept _ _ _ _ x kept);
-      second = λ n l x b kept. rw mirror_at (second_kept _ _ _ _ x b kept);
+      first = λ n l x b kept. rw mirror_at (keeps (first_kept _ _ _ _) x b kept);
+      second = λ n l x b kept. rw mirror_at (keeps (second_kept _ _ _ _) x b kept);
     }
 
 -- A block that a cache over a mirror has wiped is wiped on both sides.

@@ -9,7 +9,8 @@ use Rattle.device.specs.Operations.{write, Ran}
 use Rattle.device.proofs.Answers.{read_accepted}
 use Rattle.device.proofs.Operations.{Among, from_joined, BlockRan, block_untouched, block_changed, ran-++}
 use Rattle.layers.specs.Mirroring.{pick, mirror_shown, held_both, mirror_held, shows_sector, mending, repairing}
-use Rattle.layers.proofs.MirrorRuns.{mirror_at, Both, mirror_ran, both_ran, seen, in_first, in_second, in_hidden, parts_same}
+use Rattle.layers.proofs.Kept.{KeptBy}
+use Rattle.layers.proofs.MirrorRuns.{mirror_at, Both, mirror_ran, both_ran, held_within, none_hidden, first_kept, second_kept}
 
 -- a side is written, or it shows the sector already
 mending_cases : (n : ℕ) (s : List ℕ) (c : Shown) → ((mending n s c ≡ []) × (c ≡ sector s)) ⊎ ((mending n s c ≡ write n s ∷ []) × (c ≡ sector s → ⊥))
@@ -24,45 +25,27 @@ mending_cases n s (sector t) =
 pub mend_written : (n : ℕ) (s : List ℕ) {d d₁ d₂ : List Shown} {h h₁ h₂ : Held} → false ≡ shows_sector s (shown_at d n) → Ran [] d h d₁ h₁ → Ran (write n s ∷ []) d₁ h₁ d₂ h₂ → Ran (mending n s (shown_at d n)) d h d₂ h₂
 mend_written n s other read run = rw (← other) (ran-++ [] (write n s ∷ []) _ _ _ _ _ _ read run)
 
--- A block shows the sector, and what it gains is another that it showed before.
-record Mended (s : List ℕ) (c : Shown) (kept : List (List ℕ)) (c' : Shown) (kept' : List (List ℕ)) : Type 0 where
-  shows : c' ≡ sector s
-  gains : (x : List ℕ) → x ∈ kept' → (x ∈ kept) ⊎ ((c ≡ sector x) × (is_blank x ≡ false) × (x ≡ s → ⊥))
-
 module _ (n : ℕ) (s : List ℕ) where
-  -- the block that is mended
-  mended : {c c' : Shown} {kept kept' : List (List ℕ)} → BlockRan (mending n s c) n c kept c' kept' → Mended s c kept c' kept'
-  mended {c} {c'} {kept} {kept'} run =
+  -- a side of a mirror that shows s is mended: it shows s as well, and holds nothing that the mirror didn't hold
+  mended : {c c' shown : Shown} {kept kept' held : List (List ℕ)} → KeptBy c kept shown held → shown ≡ sector s → BlockRan (mending n s c) n c kept c' kept' → (c' ≡ sector s) × Among kept' held
+  mended {c} {c'} {kept = kept} {kept'} more same run =
       elim (mending_cases n s c) [
-        | inl done ↦ (let still = rw done.0 at run in record { shows = still.shows ∙ done.1; gains = λ x m. inl (still.holds x m) })
+        | inl done ↦ (let still = rw done.0 at run in (still.shows ∙ done.1, λ x m. more.holds x (still.holds x m)))
         | inr todo ↦
             (let b = block_changed (write n s) n refl c kept c' kept' (rw todo.0 at run) in
-            record {
-              shows = b.0;
-              gains = λ x m. elim (from_joined c kept x (b.1 x m)) [ inl k ↦ inl k | inr e ↦ inr (e.0, e.1, λ same. todo.1 (cc (e.0))) ];
-            })
+            (b.0, λ x m. elim (from_joined c kept x (b.1 x m)) [ inl k ↦ more.holds x k | inr e ↦ elim (more.shows x e.1 e.0) [ inl p ↦ absurd (todo.1 (cc)) | inr i ↦ i ] ]))
       ]
+
+  both_mended : {a b a' b' : Shown} {ka kb ka' kb' : List (List ℕ)} → pick a b ≡ sector s → BlockRan (mending n s a) n a ka a' ka' → BlockRan (mending n s b) n b kb b' kb' → Both [] n a ka b kb a' ka' b' kb'
+  both_mended {a} {b} {a'} {b'} {ka} {kb} {ka'} {kb'} shown first second =
+      let x = mended (first_kept a b ka kb) shown first in
+      let y = mended (second_kept a b ka kb) shown second in
+      record { shows = rw (x.0, shown); holds = held_within a' b' ka' kb' x.1 y.1 (none_hidden a' b' (x.0 ∙ sym y.0)) }
 
   -- the other blocks stay
   untouched : (x : Shown) {m : ℕ} {c c' : Shown} {kept kept' : List (List ℕ)} → (m ≡ n → ⊥) → BlockRan (mending n s x) m c kept c' kept' → BlockRan [] m c kept c' kept'
   untouched x {m} {c} {c'} {kept} {kept'} ne run =
       elim (mending_cases n s x) [ inl done ↦ rw done.0 at run | inr todo ↦ block_untouched (write n s) m ne c kept c' kept' (rw todo.0 at run) ]
-
--- both sides of a block that the mirror shows as s
-both_mended : {n : ℕ} (s : List ℕ) {a b a' b' : Shown} {ka kb ka' kb' : List (List ℕ)} → pick a b ≡ sector s → Mended s a ka a' ka' → Mended s b kb b' kb' → Both [] n a ka b kb a' ka' b' kb'
-both_mended s {a} {b} {a'} {b'} {ka} {kb} {ka'} {kb'} shown first second = record { shows = rw (first.shows, shown); holds = held } where
-  held : Among (held_both a' b' ka' kb') (held_both a b ka kb)
-  held x m =
-      elim (parts_same a' b' ka' kb' x (first.shows ∙ sym second.shows) m) [
-        | inl i ↦ elim (first.gains x i) [
-          | inl k ↦ in_first a b ka kb x k
-          | inr g ↦ absurd (g.2 (cc))
-        ]
-        | inr i ↦ elim (second.gains x i) [
-          | inl k ↦ in_second a b ka kb x k
-          | inr g ↦ elim (seen a b x g.0 g.1) [ inl p ↦ absurd (g.2 (cc)) | inr k ↦ in_hidden a b ka kb x k ]
-        ]
-      ]
 
 -- A side is mended after the mirror was read.
 pub side_mended : (n : ℕ) (s : List ℕ) {d d₁ d₂ : List Shown} {h h₁ h₂ : Held} → Ran [] d h d₁ h₁ → Ran (mending n s (shown_at d₁ n)) d₁ h₁ d₂ h₂ → Ran (mending n s (shown_at d n)) d h d₂ h₂
@@ -82,6 +65,6 @@ module _ (n : ℕ) (s buffer : List ℕ) (a b : List Shown) (answered : accepted
       → Ran [] (mirror_shown a b) (mirror_held a b ha hb) (mirror_shown a' b') (mirror_held a' b' ha' hb')
   both_repaired first second = mirror_ran [] first second (λ m l x y.
       elim (cases_eq m n) [
-        | inl e ↦ both_mended s (sym (mirror_at a b m l) ∙ rw e shown) (mended m s (rw (← e) at x)) (mended m s (rw (← e) at y))
+        | inl e ↦ both_mended m s (sym (mirror_at a b m l) ∙ rw e shown) (rw (← e) at x) (rw (← e) at y)
         | inr ne ↦ both_ran [] (untouched n s (shown_at a n) ne x) (untouched n s (shown_at b n) ne y)
       ])

@@ -1,0 +1,27 @@
+-- What a block of a layer keeps of what is shown and held below it.
+use Rattle.std.proofs.Common.{◌≡◌, false, ◌⊎◌, List, ℕ, inl, inr}
+use Rattle.device.specs.Blocks.{Shown, sector, ◌∈◌, is_blank}
+use Rattle.device.specs.Operations.{Op, write, wipe, lose, joined, left_by}
+use Rattle.device.proofs.Operations.{Among, kept_joined, to_joined, from_joined}
+
+-- A block that shows c' and holds kept' keeps what one does that shows c and holds kept.
+pub record KeptBy (c : Shown) (kept : List (List ℕ)) (c' : Shown) (kept' : List (List ℕ)) : Type 0 where
+  pub holds : Among kept kept'
+  pub shows : (s : List ℕ) → is_blank s ≡ false → c ≡ sector s → (c' ≡ sector s) ⊎ (s ∈ kept')
+
+module _ {c c' : Shown} {kept kept' : List (List ℕ)} (more : KeptBy c kept c' kept') where
+  pub keeps : (s : List ℕ) → is_blank s ≡ false → (c ≡ sector s) ⊎ (s ∈ kept) → (c' ≡ sector s) ⊎ (s ∈ kept')
+  keeps s b k = elim k [ inl e ↦ more.shows s b e | inr m ↦ inr (more.holds s m) ]
+
+  joined_more : Among (joined c kept) (joined c' kept')
+  joined_more s m =
+      elim (from_joined c kept s m) [
+        | inl k ↦ kept_joined c' kept' s (more.holds s k)
+        | inr e ↦ elim (more.shows s e.1 e.0) [ inl p ↦ to_joined c' kept' s p e.1 | inr i ↦ kept_joined c' kept' s i ]
+      ]
+
+  -- an operation leaves no more of the one than of the other
+  pub left_more : (o : Op) → Among (left_by o c kept) (left_by o c' kept')
+  left_more (write n x) = joined_more
+  left_more (wipe n) = λ s m. m
+  left_more (lose n) = joined_more
