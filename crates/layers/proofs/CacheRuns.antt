@@ -2,8 +2,8 @@
 use Rattle.std.proofs.Common.{◌≡◌, ℕ, zero, suc, ◌+◌, ◌<◌, List, [], ◌∷◌, length, set, add-zero, zero-add, Some, None, Option, sym, refl, ap, ◌∙◌, inl, inr, arith}
 use Rattle.std.proofs.lemmas.List.{set-set, length-set}
 use Rattle.std.proofs.lemmas.Bool.{cases_eq}
-use Rattle.device.specs.Blocks.{Shown, sector, shown_at, Held}
-use Rattle.device.specs.Operations.{Op, write, wipe, lose, target, joined, left_by, Ran}
+use Rattle.device.specs.Blocks.{Shown, shown_at, Held}
+use Rattle.device.specs.Operations.{Op, write, target, Ran}
 use Rattle.device.proofs.Operations.{Among, kept_joined, to_joined, joined_among, BlockRan, block_ran, ran_by_block, block_untouched, block_elsewhere, block_here, block_changed, count_after_all, ran_nothing, ran-++}
 use Rattle.lines.specs.declared.line.Line.{Line}
 use Rattle.lines.specs.declared.table.Table.{Table}

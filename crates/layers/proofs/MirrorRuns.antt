@@ -5,8 +5,8 @@ use Rattle.std.proofs.lemmas.Slice.Eq.{bytes_eq-Decides}
 use Rattle.std.proofs.lemmas.Bool.{cases_Bool}
 use Rattle.std.specs.Str.{bytes_eq}
 use Rattle.device.specs.Blocks.{Shown, lost, sector, shown_at, Held, ◌∈◌, is_blank}
-use Rattle.device.specs.Operations.{Op, write, wipe, lose, target, result, block_after, joined, left_by, may_hold, block_after_all, Ran}
-use Rattle.device.proofs.Operations.{Among, kept_joined, to_joined, from_joined, may_hold_all_among, BlockRan, block_ran, ran_by_block, count_after_all}
+use Rattle.device.specs.Operations.{Op, target, result, block_after, may_hold, block_after_all, Ran}
+use Rattle.device.proofs.Operations.{Among, to_joined, may_hold_all_among, BlockRan, block_ran, ran_by_block, count_after_all}
 use Rattle.layers.specs.Mirroring.{pick, mirror_shown, hidden, held_both, mirror_held}
 use Rattle.layers.proofs.Kept.{KeptBy, left_more}
 

@@ -1,16 +1,15 @@
 -- Layers keep nothing unnamed, and what a pile wipes is wiped in all that lies below it.
-use Rattle.std.proofs.Common.{◌≡◌, ℕ, ◌<◌, false, ◌⊎◌, List, [], ◌∷◌, length, Some, None, Option, ap, inl, inr, arith}
-use Rattle.device.specs.Blocks.{Shown, sector, ◌∈◌, is_blank}
+use Rattle.std.proofs.Common.{ℕ, ◌<◌, [], ◌∷◌, length, ap, inl, arith}
 use Rattle.device.specs.Operations.{wipe}
 use Rattle.device.specs.Effects.{Effect, KeepsNothing}
 use Rattle.device.specs.declared.traits.Device.{Ghosts}
 use Rattle.device.proofs.Forgetting.{wiped}
-use Rattle.device.proofs.Operations.{kept_joined, to_joined, count_after_all}
+use Rattle.device.proofs.Operations.{count_after_all}
 use Rattle.layers.specs.declared.cache.Cache.{Cache}
 use Rattle.layers.specs.declared.mirror.Mirror.{Mirror}
 use Rattle.lines.specs.Lines.{waiting_for}
-use Rattle.layers.specs.Caching.{shown_over, held_over, cached, CacheNamed}
-use Rattle.layers.specs.Mirroring.{pick, held_both, mirrored, MirrorNamed}
+use Rattle.layers.specs.Caching.{cached, CacheNamed}
+use Rattle.layers.specs.Mirroring.{mirrored, MirrorNamed}
 use Rattle.layers.proofs.Kept.{keeps}
 use Rattle.layers.proofs.CacheRuns.{cache_at, cache_count, kept_below}
 use Rattle.layers.proofs.Waiting.{waits_at}

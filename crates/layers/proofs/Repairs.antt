@@ -3,12 +3,12 @@ use Rattle.std.proofs.Common.{◌≡◌, ℕ, false, ◌⊎◌, List, [], ◌∷
 use Rattle.std.proofs.lemmas.Slice.Eq.{bytes_eq-Decides}
 use Rattle.std.proofs.lemmas.Bool.{both_ways, cases_Bool, cases_eq}
 use Rattle.std.specs.Str.{bytes_eq}
-use Rattle.device.specs.Blocks.{Shown, lost, sector, shown_at, Held, ◌∈◌, is_blank}
+use Rattle.device.specs.Blocks.{Shown, lost, sector, shown_at, Held}
 use Rattle.device.specs.Answers.{accepted, read_answer, read_buffer}
 use Rattle.device.specs.Operations.{write, Ran}
 use Rattle.device.proofs.Answers.{read_accepted}
 use Rattle.device.proofs.Operations.{Among, from_joined, BlockRan, block_untouched, block_changed, ran-++}
-use Rattle.layers.specs.Mirroring.{pick, mirror_shown, held_both, mirror_held, shows_sector, mending, repairing}
+use Rattle.layers.specs.Mirroring.{pick, mirror_shown, mirror_held, shows_sector, mending, repairing}
 use Rattle.layers.proofs.Kept.{KeptBy}
 use Rattle.layers.proofs.MirrorRuns.{mirror_at, Both, mirror_ran, both_ran, held_within, none_hidden, first_kept, second_kept}
 
