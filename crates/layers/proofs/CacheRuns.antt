@@ -75,9 +75,9 @@ pub passed_on : (o : Op) (ls ls' : List Line) (d d' : List Shown) (h h' : Held) 
 passed_on o ls ls' d d' h h' gone same run = cache_ran (o ∷ []) ls ls' run (λ n c c' kept kept' below.
     elim (cases_eq n (target o)) [
       | inl e ↦
-          (let b = block_changed o n e c kept c' kept' below in
-          rw (ap (waiting_for ls') e ∙ gone) (block_here o n e _ _ _ _ b.0 (λ s m. left_more (kept_below (waiting_for ls n) c kept) o s (b.1 s m))))
-      | inr ne ↦ block_elsewhere o n ne _ _ _ _ (over_same (same n ne) (block_untouched o n ne c kept c' kept' below))
+          (let b = block_changed o n e _ _ _ _ below in
+          rw (ap (waiting_for ls') e ∙ gone) (block_here o n e _ _ _ _ b.0 (λ s m. left_more (kept_below (waiting_for ls n) _ _) o s (b.1 s m))))
+      | inr ne ↦ block_elsewhere o n ne _ _ _ _ (over_same (same n ne) (block_untouched o n ne _ _ _ _ below))
     ])
 
 -- A sector comes to wait for block n.
@@ -86,7 +86,7 @@ put b s ls ls' d d' h h' new same run = cache_ran (write b s ∷ []) ls ls' run 
     elim (cases_eq n b) [
       | inl e ↦
           rw (ap (waiting_for ls') e ∙ new)
-          (block_here (write b s) n e _ _ _ _ refl (λ x m. left_more (kept_below (waiting_for ls n) c kept) (write b s) x (held_among (Some s) below x m)))
+          (block_here (write b s) n e _ _ _ _ refl (λ x m. left_more (kept_below (waiting_for ls n) _ _) (write b s) x (held_among (Some s) below x m)))
       | inr ne ↦ block_elsewhere (write b s) n ne _ _ _ _ (over_same (same n ne) below)
     ])
 
@@ -95,9 +95,9 @@ written_back : (b : ℕ) (s : List ℕ) (ls ls' : List Line) (d d' : List Shown)
 written_back b s ls ls' d d' h h' old gone same run = cache_ran [] ls ls' run (λ n c c' kept kept' below.
     elim (cases_eq n b) [
       | inl e ↦
-          (let x = block_changed (write b s) n e c kept c' kept' below in
+          (let x = block_changed (write b s) n e _ _ _ _ below in
           rw (ap (waiting_for ls) e ∙ old, ap (waiting_for ls') e ∙ gone) (record { shows = x.0; holds = x.1 }))
-      | inr ne ↦ over_same (same n ne) (block_untouched (write b s) n ne c kept c' kept' below)
+      | inr ne ↦ over_same (same n ne) (block_untouched (write b s) n ne _ _ _ _ below)
     ])
 
 -- All lines are written below and emptied.

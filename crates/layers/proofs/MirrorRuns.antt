@@ -43,7 +43,7 @@ seen : (a b : Shown) (s : List ℕ) → b ≡ sector s → is_blank s ≡ false 
 seen lost b s e n = inl e
 seen (sector x) b s e n =
     elim (cases_Bool (bytes_eq x s)) [
-      | inl t ↦ inl (ap sector ((bytes_eq-Decides x s).0 t))
+      | inl t ↦ inl (rw ((bytes_eq-Decides x s).0 t))
       | inr f ↦ inr (rw (e, f) (to_joined (sector s) [] s refl n))
     ]
 
@@ -62,7 +62,11 @@ module _ (a b : Shown) (ka kb : List (List ℕ)) where
 
   -- and what the second keeps: it is shown, or held, or hidden
   pub second_kept : KeptBy b kb (pick a b) (held_both a b ka kb)
-  second_kept = record { holds = λ s m. Memᴰ.append_left (hidden a b) (Memᴰ.append_right ka m); shows = λ s n e. elim (seen a b s e n) [ inl p ↦ inl p | inr m ↦ inr (in_hidden s m) ] }
+  second_kept =
+      record {
+        holds = λ s m. Memᴰ.append_left (hidden a b) (Memᴰ.append_right ka m);
+        shows = λ s n e. elim (seen a b s e n) [ inl p ↦ inl p | inr m ↦ inr (in_hidden s m) ];
+      }
 
 -- What happens to a block of the mirror, by what its sides show and hold.
 abbrev pub Both : List Op → ℕ → Shown → List (List ℕ) → Shown → List (List ℕ) → Shown → List (List ℕ) → Shown → List (List ℕ) → Type 0
@@ -86,7 +90,12 @@ after_first run = record { shows = run.shows; holds = run.holds }
 -- the same operations on both sides, one after the other
 pub both_ran : (os : List Op) {n : ℕ} {a b a' b' : Shown} {ka kb ka' kb' : List (List ℕ)} → BlockRan os n a ka a' ka' → BlockRan os n b kb b' kb' → Both os n a ka b kb a' ka' b' kb'
 both_ran [] {n} {a} {b} {a'} {b'} {ka} {kb} {ka'} {kb'} first second =
-    record { shows = ap₂ pick first.shows second.shows; holds = rw (first.shows, second.shows) (held_within a b ka' kb' (λ s m. (first_kept a b ka kb).holds s (first.holds s m)) (λ s m. (second_kept a b ka kb).holds s (second.holds s m)) (in_hidden a b ka kb)) }
+    record {
+      shows = ap₂ pick first.shows second.shows;
+      holds =
+          rw (first.shows, second.shows)
+          (held_within a b ka' kb' (λ s m. (first_kept a b ka kb).holds s (first.holds s m)) (λ s m. (second_kept a b ka kb).holds s (second.holds s m)) (in_hidden a b ka kb));
+    }
 both_ran (o ∷ os) {n} {a} {b} {ka = ka} {kb = kb} first second =
     let one = one_after o n a b ka kb in
     let rest = both_ran os (after_first first) (after_first second) in

@@ -17,7 +17,7 @@ mending_cases : (n : ℕ) (s : List ℕ) (c : Shown) → ((mending n s c ≡ [])
 mending_cases n s lost = inr (refl, λ e. cc)
 mending_cases n s (sector t) =
     elim (cases_Bool (bytes_eq s t)) [
-      | inl same ↦ inl (rw same, ap sector (sym ((bytes_eq-Decides s t).0 same)))
+      | inl same ↦ inl (rw same, rw ((bytes_eq-Decides s t).0 same))
       | inr other ↦ inr (rw other, λ e. both_ways (bytes_eq s t) other ((bytes_eq-Decides s t).1 (cc)))
     ]
 
@@ -25,8 +25,9 @@ mending_cases n s (sector t) =
 pub mend_written : (n : ℕ) (s : List ℕ) {d d₁ d₂ : List Shown} {h h₁ h₂ : Held} → false ≡ shows_sector s (shown_at d n) → Ran [] d h d₁ h₁ → Ran (write n s ∷ []) d₁ h₁ d₂ h₂ → Ran (mending n s (shown_at d n)) d h d₂ h₂
 mend_written n s other read run = rw (← other) (ran-++ [] (write n s ∷ []) _ _ _ _ _ _ read run)
 
+-- Block n of a mirror shows s, and each side is mended.
 module _ (n : ℕ) (s : List ℕ) where
-  -- a side of a mirror that shows s is mended: it shows s as well, and holds nothing that the mirror didn't hold
+  -- a side then shows s as well, and holds nothing that the mirror didn't hold
   mended : {c c' shown : Shown} {kept kept' held : List (List ℕ)} → KeptBy c kept shown held → shown ≡ sector s → BlockRan (mending n s c) n c kept c' kept' → (c' ≡ sector s) × Among kept' held
   mended {c} {c'} {kept = kept} {kept'} more same run =
       elim (mending_cases n s c) [
@@ -36,6 +37,7 @@ module _ (n : ℕ) (s : List ℕ) where
             (b.0, λ x m. elim (from_joined c kept x (b.1 x m)) [ inl k ↦ more.holds x k | inr e ↦ elim (more.shows x e.1 e.0) [ inl p ↦ absurd (todo.1 (cc)) | inr i ↦ i ] ]))
       ]
 
+  -- so the mirror shows what it showed, and holds no more
   both_mended : {a b a' b' : Shown} {ka kb ka' kb' : List (List ℕ)} → pick a b ≡ sector s → BlockRan (mending n s a) n a ka a' ka' → BlockRan (mending n s b) n b kb b' kb' → Both [] n a ka b kb a' ka' b' kb'
   both_mended {a} {b} {a'} {b'} {ka} {kb} {ka'} {kb'} shown first second =
       let x = mended (first_kept a b ka kb) shown first in
@@ -60,7 +62,7 @@ module _ (n : ℕ) (s buffer : List ℕ) (a b : List Shown) (answered : accepted
   pub side_repaired : {d d₁ d₂ : List Shown} {h h₁ h₂ : Held} → Ran [] d h d₁ h₁ → Ran (mending n s (shown_at d₁ n)) d₁ h₁ d₂ h₂ → Ran (repairing n (shown_at (mirror_shown a b) n) (shown_at d n)) d h d₂ h₂
   side_repaired read run = rw shown (side_mended n s read run)
 
-  -- both sides are mended at block n: the mirror shows what it showed, and holds no more
+  -- both sides are mended at block n: nothing happens to the mirror
   pub both_repaired : {a' b' : List Shown} {ha hb ha' hb' : Held} → Ran (mending n s (shown_at a n)) a ha a' ha' → Ran (mending n s (shown_at b n)) b hb b' hb'
       → Ran [] (mirror_shown a b) (mirror_held a b ha hb) (mirror_shown a' b') (mirror_held a' b' ha' hb')
   both_repaired first second = mirror_ran [] first second (λ m l x y.
