@@ -1,5 +1,5 @@
 -- What a cache shows and holds, as its lines and the device below change.
-use Rattle.std.proofs.Common.{◌≡◌, ℕ, zero, suc, ◌+◌, ◌<◌, List, [], ◌∷◌, length, set, add-zero, zero-add, Some, None, Option, sym, refl, ap, ◌∙◌, inl, inr, arith}
+use Rattle.std.proofs.Common.{◌≡◌, ℕ, zero, suc, ◌+◌, ◌<◌, List, [], ◌∷◌, length, set, add-zero, zero-add, Some, None, Option, sym, refl, ap, ◌∙◌, inl, inr, arith, rules}
 use Rattle.std.proofs.lemmas.List.{set-set, length-set}
 use Rattle.std.proofs.lemmas.Bool.{cases_eq}
 use Rattle.device.specs.Blocks.{Shown, shown_at, Held}
@@ -25,7 +25,7 @@ cache_count ls d = shown_from_count 0 ls d
 shown_from_at : (k : ℕ) (ls : List Line) (d : List Shown) (n : ℕ) → n < length d → shown_at (shown_from k ls d) n ≡ shown_over (waiting_for ls (k + n)) (shown_at d n)
 shown_from_at k ls [] n h = absurd (omega arith)
 shown_from_at k ls (c ∷ d) zero h = rw add-zero
-shown_from_at k ls (c ∷ d) (suc n) h = let e : k + suc n ≡ suc k + n = omega arith in rw e (shown_from_at (suc k) ls d n (omega arith))
+shown_from_at k ls (c ∷ d) (suc n) h = grind (arith, shown_from_at (suc k) ls d n)
 
 pub cache_at : (ls : List Line) (d : List Shown) (n : ℕ) → n < length d → shown_at (cache_shown ls d) n ≡ shown_over (waiting_for ls n) (shown_at d n)
 cache_at ls d n h = rw zero-add at (shown_from_at 0 ls d n h)
@@ -55,8 +55,8 @@ held_among {c = c} {kept = kept} {kept' = kept'} (Some s) run = rw run.shows (jo
 
 -- what is kept below is kept by the cache
 pub kept_below : (w : Option (List ℕ)) (c : Shown) (kept : List (List ℕ)) → KeptBy c kept (shown_over w c) (held_over w c kept)
-kept_below None c kept = record { holds = λ s m. m; shows = λ s b e. inl e }
-kept_below (Some x) c kept = record { holds = kept_joined c kept; shows = λ s b e. inr (to_joined c kept s e b) }
+kept_below None c kept = search rules
+kept_below (Some x) c kept = search (rules, kept_joined, to_joined)
 
 -- a block for which the same waits as before, and which nothing changes below
 over_same : {n : ℕ} {w w' : Option (List ℕ)} {c c' : Shown} {kept kept' : List (List ℕ)} → w' ≡ w → BlockRan [] n c kept c' kept' → Over [] n w c kept w' c' kept'

@@ -1,5 +1,5 @@
 -- What a block of a layer keeps of what is shown and held below it.
-use Rattle.std.proofs.Common.{◌≡◌, false, ◌⊎◌, List, ℕ, inl, inr}
+use Rattle.std.proofs.Common.{◌≡◌, false, ◌⊎◌, List, ℕ, inl, inr, arith}
 use Rattle.device.specs.Blocks.{Shown, sector, ◌∈◌, is_blank}
 use Rattle.device.specs.Operations.{Op, write, wipe, lose, joined, left_by}
 use Rattle.device.proofs.Operations.{Among, kept_joined, to_joined, from_joined}
@@ -16,11 +16,7 @@ module _ {c c' : Shown} {kept kept' : List (List ℕ)} (more : KeptBy c kept c' 
 
   -- what joins there joins here, or was held here already
   joined_more : Among (joined c kept) (joined c' kept')
-  joined_more s m =
-      elim (from_joined c kept s m) [
-        | inl k ↦ kept_joined c' kept' s (more.holds s k)
-        | inr e ↦ elim (more.shows s e.1 e.0) [ inl p ↦ to_joined c' kept' s p e.1 | inr i ↦ kept_joined c' kept' s i ]
-      ]
+  joined_more s m = grind (arith, from_joined c kept s m, more.holds s, more.shows s, kept_joined c' kept' s, to_joined c' kept' s)
 
   -- so an operation on the block leaves no more there than here
   pub left_more : (o : Op) → Among (left_by o c kept) (left_by o c' kept')

@@ -41,11 +41,7 @@ none_hidden a b e s m = absurd (Memᴰ.not-nil (rw (e, hidden_same) at m))
 -- what the second side shows is shown by the mirror or hidden
 seen : (a b : Shown) (s : List ℕ) → b ≡ sector s → is_blank s ≡ false → (pick a b ≡ sector s) ⊎ (s ∈ hidden a b)
 seen lost b s e n = inl e
-seen (sector x) b s e n =
-    elim (cases_Bool (bytes_eq x s)) [
-      | inl t ↦ inl (rw ((bytes_eq-Decides x s).0 t))
-      | inr f ↦ inr (rw (e, f) (to_joined (sector s) [] s refl n))
-    ]
+seen (sector x) b s e n = grind (arith, bytes_eq-Decides x s, to_joined (sector s) [] s refl n)
 
 -- the three parts of what a mirror holds
 module _ (a b : Shown) (ka kb : List (List ℕ)) where
@@ -53,8 +49,7 @@ module _ (a b : Shown) (ka kb : List (List ℕ)) where
   in_hidden s m = Memᴰ.append_right (ka ++ kb) m
 
   pub held_within : {xs : List (List ℕ)} → Among ka xs → Among kb xs → Among (hidden a b) xs → Among (held_both a b ka kb) xs
-  held_within first second third s m =
-      elim (Memᴰ.append_cases (ka ++ kb) m) [ inl k ↦ elim (Memᴰ.append_cases ka k) [ inl i ↦ first s i | inr i ↦ second s i ] | inr k ↦ third s k ]
+  held_within first second third s m = grind (arith, Memᴰ.append_cases (ka ++ kb) m, Memᴰ.append_cases {a = s} ka)
 
   -- what the first side keeps, the mirror keeps
   pub first_kept : KeptBy a ka (pick a b) (held_both a b ka kb)

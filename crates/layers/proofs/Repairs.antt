@@ -1,5 +1,5 @@
 -- A block of a mirror repaired: both sides show what the mirror shows, and nothing more is held.
-use Rattle.std.proofs.Common.{◌≡◌, ℕ, false, ◌⊎◌, List, [], ◌∷◌, sym, refl, ap, ◌∙◌, inl, inr}
+use Rattle.std.proofs.Common.{◌≡◌, ℕ, false, ◌⊎◌, List, [], ◌∷◌, sym, refl, ap, ◌∙◌, inl, inr, arith}
 use Rattle.std.proofs.lemmas.Slice.Eq.{bytes_eq-Decides}
 use Rattle.std.proofs.lemmas.Bool.{both_ways, cases_Bool, cases_eq}
 use Rattle.std.specs.Str.{bytes_eq}
@@ -17,8 +17,8 @@ mending_cases : (n : ℕ) (s : List ℕ) (c : Shown) → ((mending n s c ≡ [])
 mending_cases n s lost = inr (refl, λ e. cc)
 mending_cases n s (sector t) =
     elim (cases_Bool (bytes_eq s t)) [
-      | inl same ↦ inl (rw same, rw ((bytes_eq-Decides s t).0 same))
-      | inr other ↦ inr (rw other, λ e. both_ways (bytes_eq s t) other ((bytes_eq-Decides s t).1 (cc)))
+      | inl same ↦ inl (rw same, cc ((bytes_eq-Decides s t).0 same))
+      | inr other ↦ inr (rw other, λ e. cc ((bytes_eq-Decides s t).1 (cc)))
     ]
 
 -- the sector isn't shown, and it is written
@@ -34,7 +34,7 @@ module _ (n : ℕ) (s : List ℕ) where
         | inl done ↦ (let still = rw done.0 at run in (still.shows ∙ done.1, λ x m. more.holds x (still.holds x m)))
         | inr todo ↦
             (let b = block_changed (write n s) n refl c kept c' kept' (rw todo.0 at run) in
-            (b.0, λ x m. elim (from_joined c kept x (b.1 x m)) [ inl k ↦ more.holds x k | inr e ↦ elim (more.shows x e.1 e.0) [ inl p ↦ absurd (todo.1 (cc)) | inr i ↦ i ] ]))
+            (b.0, λ x m. grind (arith, from_joined c kept x (b.1 x m), more.holds x, more.shows x)))
       ]
 
   -- so the mirror shows what it showed, and holds no more
