@@ -11,7 +11,7 @@ use Rattle.lines.specs.Lines.{empty_line, line_of, line_at, block_at, Apart, wai
 use Rattle.lines.specs.Tables.{taken, lines_written, evicted, lines_without}
 use Rattle.layers.specs.Caching.{shown_over, held_over, shown_from, cache_shown, cache_held}
 use Rattle.lines.proofs.Lines.{search_for, stands_within, at_same, taken_within, taken_only, apart_set, apart_empty}
-use Rattle.layers.proofs.Kept.{KeptBy, left_more}
+use Rattle.layers.proofs.Kept.{ran_count, KeptBy, left_more}
 use Rattle.layers.proofs.Waiting.{waits_at, waits_not, waiting_other, waiting_new, waiting_gone, all_at}
 
 -- as many blocks as below
@@ -42,11 +42,9 @@ Over os n w c kept w' c' kept' = BlockRan os n (shown_over w c) (held_over w c k
 cache_ran : (os : List Op) (ls ls' : List Line) {ps : List Op} {d d' : List Shown} {h h' : Held} → Ran ps d h d' h'
     → ((n : ℕ) (c c' : Shown) (kept kept' : List (List ℕ)) → BlockRan ps n c kept c' kept' → Over os n (waiting_for ls n) c kept (waiting_for ls' n) c' kept')
     → CacheRan os ls d h ls' d' h'
-cache_ran os ls ls' {ps} {d} {d'} {h} {h'} run each = ran_by_block os _ _ _ _ (cache_count ls' d' ∙ len ∙ sym (cache_count ls d)) (λ n l.
+cache_ran os ls ls' {d = d} {d'} run each = ran_by_block os _ _ _ _ (cache_count ls' d' ∙ ran_count run ∙ sym (cache_count ls d)) (λ n l.
     let m : n < length d = omega (arith, cache_count ls d) in
-    rw (cache_at ls d n m, cache_at ls' d' n (omega (arith, len))) (each n _ _ _ _ (block_ran ps d d' h h' run n m))) where
-      len : length d' ≡ length d
-      len = ap length run.shows ∙ count_after_all ps d
+    rw (cache_at ls d n m, cache_at ls' d' n (omega (arith, ran_count run))) (each n _ _ _ _ (block_ran _ _ _ _ _ run n m)))
 
 -- what is held grows with what is held below
 held_among : {n : ℕ} {c c' : Shown} {kept kept' : List (List ℕ)} (w : Option (List ℕ)) → BlockRan [] n c kept c' kept' → Among (held_over w c' kept') (held_over w c kept)

@@ -8,7 +8,7 @@ use Rattle.device.specs.Blocks.{Shown, lost, sector, shown_at, Held, ◌∈◌, 
 use Rattle.device.specs.Operations.{Op, target, result, block_after, may_hold, block_after_all, Ran}
 use Rattle.device.proofs.Operations.{Among, to_joined, may_hold_all_among, BlockRan, block_ran, ran_by_block, count_after_all}
 use Rattle.layers.specs.Mirroring.{pick, mirror_shown, hidden, held_both, mirror_held}
-use Rattle.layers.proofs.Kept.{KeptBy, left_more}
+use Rattle.layers.proofs.Kept.{ran_count, KeptBy, left_more}
 
 -- as many blocks as the smaller side has
 pub mirror_count : (a b : List Shown) → length (mirror_shown a b) ≡ min (length a) (length b)
@@ -35,8 +35,8 @@ hidden_same lost = refl
 hidden_same (sector s) = rw ((bytes_eq-Decides s s).1 refl)
 
 -- of two sides that show the same, nothing is hidden
-pub none_hidden : (a b : Shown) {xs : List (List ℕ)} → a ≡ b → Among (hidden a b) xs
-none_hidden a b e s m = absurd (Memᴰ.not-nil (rw (e, hidden_same) at m))
+pub none_hidden : {a b : Shown} {xs : List (List ℕ)} → a ≡ b → Among (hidden a b) xs
+none_hidden e s m = absurd (Memᴰ.not-nil (rw (e, hidden_same) at m))
 
 -- what the second side shows is shown by the mirror or hidden
 seen : (a b : Shown) (s : List ℕ) → b ≡ sector s → is_blank s ≡ false → (pick a b ≡ sector s) ⊎ (s ∈ hidden a b)
@@ -73,7 +73,7 @@ one_after o n a b ka kb =
     elim (cases_Bool (eqb n (target o))) [
       | inl t ↦ record {
         shows = rw t (pick_same (result o));
-        holds = rw t (held_within (result o) (result o) _ _ (left_more (first_kept a b ka kb) o) (left_more (second_kept a b ka kb) o) (none_hidden (result o) (result o) refl));
+        holds = rw t (held_within (result o) (result o) _ _ (left_more (first_kept a b ka kb) o) (left_more (second_kept a b ka kb) o) (none_hidden {a = result o} refl));
       }
       | inr f ↦ record { shows = rw f; holds = rw f (λ s m. m) }
     ]
@@ -104,11 +104,11 @@ pub mirror_ran : (os : List Op) {ps qs : List Op} {a b a' b' : List Shown} {ha h
     → ((n : ℕ) → n < length (mirror_shown a b) → BlockRan ps n (shown_at a n) (ha n) (shown_at a' n) (ha' n) → BlockRan qs n (shown_at b n) (hb n) (shown_at b' n) (hb' n)
     → Both os n (shown_at a n) (ha n) (shown_at b n) (hb n) (shown_at a' n) (ha' n) (shown_at b' n) (hb' n))
     → Ran os (mirror_shown a b) (mirror_held a b ha hb) (mirror_shown a' b') (mirror_held a' b' ha' hb')
-mirror_ran os {ps} {qs} {a} {b} {a'} {b'} {ha} {hb} {ha'} {hb'} first second each = ran_by_block os _ _ _ _ same (λ n l.
+mirror_ran os {a = a} {b} {a'} {b'} first second each = ran_by_block os _ _ _ _ same (λ n l.
     let within = within_both a b n l in
-    rw (mirror_at a b n l, mirror_at a' b' n (omega (arith, same))) (each n l (block_ran ps _ _ _ _ first n within.0) (block_ran qs _ _ _ _ second n within.1))) where
+    rw (mirror_at a b n l, mirror_at a' b' n (omega (arith, same))) (each n l (block_ran _ _ _ _ _ first n within.0) (block_ran _ _ _ _ _ second n within.1))) where
       same : length (mirror_shown a' b') ≡ length (mirror_shown a b)
-      same = omega (arith, mirror_count a b, mirror_count a' b', ap length first.shows, count_after_all ps a, ap length second.shows, count_after_all qs b)
+      same = omega (arith, mirror_count a b, mirror_count a' b', ran_count first, ran_count second)
 
 -- The same operations on both sides are those of the mirror.
 pub both_sides : (os : List Op) (a b a' b' : List Shown) (ha hb ha' hb' : Held) → Ran os a ha a' ha' → Ran os b hb b' hb'

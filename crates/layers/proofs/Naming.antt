@@ -10,7 +10,7 @@ use Rattle.layers.specs.declared.mirror.Mirror.{Mirror}
 use Rattle.lines.specs.Lines.{waiting_for}
 use Rattle.layers.specs.Caching.{cached, CacheNamed}
 use Rattle.layers.specs.Mirroring.{mirrored, MirrorNamed}
-use Rattle.layers.proofs.Kept.{keeps}
+use Rattle.layers.proofs.Kept.{ran_count, keeps}
 use Rattle.layers.proofs.CacheRuns.{cache_at, cache_count, kept_below}
 use Rattle.layers.proofs.Waiting.{waits_at}
 use Rattle.layers.proofs.MirrorRuns.{mirror_at, first_kept, second_kept}
@@ -37,7 +37,7 @@ wiped_both g k n c c' run l = (λ x b kept. gone x b (sides.first n here x b kep
   sides = mirror_named g k c'.below
 
   here : n < length ((mirrored g k).shown c'.below)
-  here = omega (arith, ap length run.shows, count_after_all (wipe n ∷ []) ((cached (mirrored g k)).shown c), cache_count c'.table.lines ((mirrored g k).shown c'.below))
+  here = omega (arith, ran_count run, cache_count c'.table.lines ((mirrored g k).shown c'.below))
 
   gone : KeepsNothing (mirrored g k) c'.below n
   gone x b kept = wiped n _ _ _ _ run l x b ((cache_named (mirrored g k) c').below n here x b kept)

@@ -22,8 +22,8 @@ mending_cases n s (sector t) =
     ]
 
 -- the sector isn't shown, and it is written
-pub mend_written : (n : ℕ) (s : List ℕ) {d d₁ d₂ : List Shown} {h h₁ h₂ : Held} → false ≡ shows_sector s (shown_at d n) → Ran [] d h d₁ h₁ → Ran (write n s ∷ []) d₁ h₁ d₂ h₂ → Ran (mending n s (shown_at d n)) d h d₂ h₂
-mend_written n s other read run = rw (← other) (ran-++ [] (write n s ∷ []) _ _ _ _ _ _ read run)
+pub mend_written : {n : ℕ} {s : List ℕ} {d d₁ d₂ : List Shown} {h h₁ h₂ : Held} → false ≡ shows_sector s (shown_at d n) → Ran [] d h d₁ h₁ → Ran (write n s ∷ []) d₁ h₁ d₂ h₂ → Ran (mending n s (shown_at d n)) d h d₂ h₂
+mend_written {n} {s} other read run = rw (← other) (ran-++ [] (write n s ∷ []) _ _ _ _ _ _ read run)
 
 -- Block n of a mirror shows s, and each side is mended.
 module _ (n : ℕ) (s : List ℕ) where
@@ -42,7 +42,7 @@ module _ (n : ℕ) (s : List ℕ) where
   both_mended {a} {b} {a'} {b'} {ka} {kb} {ka'} {kb'} shown first second =
       let x = mended (first_kept a b ka kb) shown first in
       let y = mended (second_kept a b ka kb) shown second in
-      record { shows = rw (x.0, shown); holds = held_within a' b' ka' kb' x.1 y.1 (none_hidden a' b' (x.0 ∙ sym y.0)) }
+      record { shows = rw (x.0, shown); holds = held_within a' b' ka' kb' x.1 y.1 (none_hidden (x.0 ∙ sym y.0)) }
 
   -- the other blocks stay
   untouched : (x : Shown) {m : ℕ} {c c' : Shown} {kept kept' : List (List ℕ)} → (m ≡ n → ⊥) → BlockRan (mending n s x) m c kept c' kept' → BlockRan [] m c kept c' kept'
