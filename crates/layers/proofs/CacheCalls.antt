@@ -14,7 +14,8 @@ use Rattle.layers.proofs.CacheRuns.{CacheRan, cache_count, cache_at, written, dr
 -- The table was t, and the lines are ls' now; below, d and h were shown and held, and d' and h' are.
 module _ (t : Table) (ls' : List Line) {d d' : List Shown} {h h' : Held} where
   -- a line comes to stand for block n, after the one that makes room is written below
-  pub wrote : (n : ℕ) (s : List ℕ) (left : Line) → ls' ≡ lines_written t n s → left ≡ evicted t n → Ran (waiting left) d h d' h' → CacheRan (write n s ∷ []) t.lines d h ls' d' h'
+  pub wrote : (n : ℕ) (s : List ℕ) (left : Line) → ls' ≡ lines_written t n s → left ≡ evicted t n → Ran (waiting left) d h d' h'
+      → CacheRan (write n s ∷ []) t.lines d h ls' d' h'
   wrote n s left lines leaves run = rw lines (written t n s (rw leaves at run))
 
   -- a wipe or a mark, which drops the line for the block

@@ -4,7 +4,7 @@ use Rattle.std.proofs.lemmas.List.{set-set, length-set}
 use Rattle.std.proofs.lemmas.Bool.{cases_eq}
 use Rattle.device.specs.Blocks.{Shown, shown_at, Held}
 use Rattle.device.specs.Operations.{Op, write, target, Ran}
-use Rattle.device.proofs.Operations.{Among, kept_joined, to_joined, joined_among, BlockRan, block_ran, ran_by_block, block_untouched, block_elsewhere, block_here, block_changed, count_after_all, ran_nothing, ran-++}
+use Rattle.device.proofs.Operations.{Among, kept_joined, to_joined, joined_among, BlockRan, block_ran, ran_by_block, block_untouched, block_elsewhere, block_here, block_changed, ran_nothing, ran-++}
 use Rattle.lines.specs.declared.line.Line.{Line}
 use Rattle.lines.specs.declared.table.Table.{Table}
 use Rattle.lines.specs.Lines.{empty_line, line_of, line_at, block_at, Apart, waiting, waiting_in, all_waiting, waiting_for}
@@ -69,7 +69,8 @@ abbrev SameBut : ℕ → List Line → List Line → Type 0
 SameBut b ls ls' = (n : ℕ) → (n ≡ b → ⊥) → waiting_for ls' n ≡ waiting_for ls n
 
 -- The line for a block is dropped and an operation on the block passed on.
-pub passed_on : (o : Op) (ls ls' : List Line) (d d' : List Shown) (h h' : Held) → waiting_for ls' (target o) ≡ None → SameBut (target o) ls ls' → Ran (o ∷ []) d h d' h' → CacheRan (o ∷ []) ls d h ls' d' h'
+pub passed_on : (o : Op) (ls ls' : List Line) (d d' : List Shown) (h h' : Held) → waiting_for ls' (target o) ≡ None → SameBut (target o) ls ls' → Ran (o ∷ []) d h d' h'
+    → CacheRan (o ∷ []) ls d h ls' d' h'
 passed_on o ls ls' d d' h h' gone same run = cache_ran (o ∷ []) ls ls' run (λ n c c' kept kept' below.
     elim (cases_eq n (target o)) [
       | inl e ↦
@@ -79,7 +80,8 @@ passed_on o ls ls' d d' h h' gone same run = cache_ran (o ∷ []) ls ls' run (λ
     ])
 
 -- A sector comes to wait for block n.
-pub put : (n : ℕ) (s : List ℕ) (ls ls' : List Line) (d d' : List Shown) (h h' : Held) → waiting_for ls' n ≡ Some s → SameBut n ls ls' → Ran [] d h d' h' → CacheRan (write n s ∷ []) ls d h ls' d' h'
+pub put : (n : ℕ) (s : List ℕ) (ls ls' : List Line) (d d' : List Shown) (h h' : Held) → waiting_for ls' n ≡ Some s → SameBut n ls ls' → Ran [] d h d' h'
+    → CacheRan (write n s ∷ []) ls d h ls' d' h'
 put b s ls ls' d d' h h' new same run = cache_ran (write b s ∷ []) ls ls' run (λ n c c' kept kept' below.
     elim (cases_eq n b) [
       | inl e ↦
@@ -89,7 +91,8 @@ put b s ls ls' d d' h h' new same run = cache_ran (write b s ∷ []) ls ls' run 
     ])
 
 -- The line that stands for a block is written below and emptied.
-written_back : (b : ℕ) (s : List ℕ) (ls ls' : List Line) (d d' : List Shown) (h h' : Held) → waiting_for ls b ≡ Some s → waiting_for ls' b ≡ None → SameBut b ls ls' → Ran (write b s ∷ []) d h d' h' → CacheRan [] ls d h ls' d' h'
+written_back : (b : ℕ) (s : List ℕ) (ls ls' : List Line) (d d' : List Shown) (h h' : Held) → waiting_for ls b ≡ Some s → waiting_for ls' b ≡ None → SameBut b ls ls' → Ran (write b s ∷ []) d h d' h'
+    → CacheRan [] ls d h ls' d' h'
 written_back b s ls ls' d d' h h' old gone same run = cache_ran [] ls ls' run (λ n c c' kept kept' below.
     elim (cases_eq n b) [
       | inl e ↦
@@ -99,7 +102,8 @@ written_back b s ls ls' d d' h h' old gone same run = cache_ran [] ls ls' run (�
     ])
 
 -- All lines are written below and emptied.
-pub all_written_back : (ls ls' : List Line) → Apart ls → ((n : ℕ) → waiting_for ls' n ≡ None) → {d d' : List Shown} {h h' : Held} → Ran (all_waiting ls) d h d' h' → CacheRan [] ls d h ls' d' h'
+pub all_written_back : (ls ls' : List Line) → Apart ls → ((n : ℕ) → waiting_for ls' n ≡ None) → {d d' : List Shown} {h h' : Held} → Ran (all_waiting ls) d h d' h'
+    → CacheRan [] ls d h ls' d' h'
 all_written_back ls ls' apart gone run = cache_ran [] ls ls' run (λ n c c' kept kept' below.
     let all = all_at ls apart n c kept in
     rw (gone n) (record { shows = below.shows ∙ all.0; holds = rw all.1 at below.holds }))
@@ -122,7 +126,8 @@ line_filled ls i n s inside apart free run =
     (λ m ne. waiting_other ls i (line_of n s) inside apart m (λ e. ne (cc)) (free m ne)) run
 
 -- Line i is written below, and then comes to stand for block n.
-line_replaced : (ls : List Line) (i n : ℕ) (s : List ℕ) → i < length ls → Apart ls → Apart (set ls i (line_of n s)) → {d d' : List Shown} {h h' : Held} → Ran (waiting (line_at ls i)) d h d' h' → CacheRan (write n s ∷ []) ls d h (set ls i (line_of n s)) d' h'
+line_replaced : (ls : List Line) (i n : ℕ) (s : List ℕ) → i < length ls → Apart ls → Apart (set ls i (line_of n s)) → {d d' : List Shown} {h h' : Held} → Ran (waiting (line_at ls i)) d h d' h'
+    → CacheRan (write n s ∷ []) ls d h (set ls i (line_of n s)) d' h'
 line_replaced ls i n s inside apart apart' {d' = d'} {h' = h'} run =
     let bare = set ls i empty_line in
     let twice = set-set ls i empty_line (line_of n s) in

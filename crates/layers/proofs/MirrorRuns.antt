@@ -3,10 +3,9 @@ use Rattle.std.proofs.Common.{◌≡◌, ℕ, zero, suc, ◌<◌, min, false, eq
 use mathlib.Core.List.Memᴰ
 use Rattle.std.proofs.lemmas.Slice.Eq.{bytes_eq-Decides}
 use Rattle.std.proofs.lemmas.Bool.{cases_Bool}
-use Rattle.std.specs.Str.{bytes_eq}
 use Rattle.device.specs.Blocks.{Shown, lost, sector, shown_at, Held, ◌∈◌, is_blank}
 use Rattle.device.specs.Operations.{Op, target, result, block_after, may_hold, block_after_all, Ran}
-use Rattle.device.proofs.Operations.{Among, to_joined, may_hold_all_among, BlockRan, block_ran, ran_by_block, count_after_all}
+use Rattle.device.proofs.Operations.{Among, to_joined, may_hold_all_among, BlockRan, block_ran, ran_by_block}
 use Rattle.layers.specs.Mirroring.{pick, mirror_shown, hidden, held_both, mirror_held}
 use Rattle.layers.proofs.Kept.{ran_count, KeptBy, left_more}
 

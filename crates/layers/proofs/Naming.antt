@@ -1,10 +1,9 @@
 -- Layers keep nothing unnamed, and what a pile wipes is wiped in all that lies below it.
-use Rattle.std.proofs.Common.{ℕ, ◌<◌, [], ◌∷◌, length, ap, inl, arith}
+use Rattle.std.proofs.Common.{ℕ, ◌<◌, [], ◌∷◌, length, inl, arith}
 use Rattle.device.specs.Operations.{wipe}
 use Rattle.device.specs.Effects.{Effect, KeepsNothing}
 use Rattle.device.specs.declared.traits.Device.{Ghosts}
 use Rattle.device.proofs.Forgetting.{wiped}
-use Rattle.device.proofs.Operations.{count_after_all}
 use Rattle.layers.specs.declared.cache.Cache.{Cache}
 use Rattle.layers.specs.declared.mirror.Mirror.{Mirror}
 use Rattle.lines.specs.Lines.{waiting_for}

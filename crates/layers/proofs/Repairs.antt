@@ -1,7 +1,7 @@
 -- A block of a mirror repaired: both sides show what the mirror shows, and nothing more is held.
-use Rattle.std.proofs.Common.{◌≡◌, ℕ, false, ◌⊎◌, List, [], ◌∷◌, sym, refl, ap, ◌∙◌, inl, inr, arith}
+use Rattle.std.proofs.Common.{◌≡◌, ℕ, false, ◌⊎◌, List, [], ◌∷◌, sym, refl, ◌∙◌, inl, inr, arith}
 use Rattle.std.proofs.lemmas.Slice.Eq.{bytes_eq-Decides}
-use Rattle.std.proofs.lemmas.Bool.{both_ways, cases_Bool, cases_eq}
+use Rattle.std.proofs.lemmas.Bool.{cases_Bool, cases_eq}
 use Rattle.std.specs.Str.{bytes_eq}
 use Rattle.device.specs.Blocks.{Shown, lost, sector, shown_at, Held}
 use Rattle.device.specs.Answers.{accepted, read_answer, read_buffer}
@@ -22,13 +22,15 @@ mending_cases n s (sector t) =
     ]
 
 -- the sector isn't shown, and it is written
-pub mend_written : {n : ℕ} {s : List ℕ} {d d₁ d₂ : List Shown} {h h₁ h₂ : Held} → false ≡ shows_sector s (shown_at d n) → Ran [] d h d₁ h₁ → Ran (write n s ∷ []) d₁ h₁ d₂ h₂ → Ran (mending n s (shown_at d n)) d h d₂ h₂
+pub mend_written : {n : ℕ} {s : List ℕ} {d d₁ d₂ : List Shown} {h h₁ h₂ : Held} → false ≡ shows_sector s (shown_at d n) → Ran [] d h d₁ h₁ → Ran (write n s ∷ []) d₁ h₁ d₂ h₂
+    → Ran (mending n s (shown_at d n)) d h d₂ h₂
 mend_written {n} {s} other read run = rw (← other) (ran-++ [] (write n s ∷ []) _ _ _ _ _ _ read run)
 
 -- Block n of a mirror shows s, and each side is mended.
 module _ (n : ℕ) (s : List ℕ) where
   -- a side then shows s as well, and holds nothing that the mirror didn't hold
-  mended : {c c' shown : Shown} {kept kept' held : List (List ℕ)} → KeptBy c kept shown held → shown ≡ sector s → BlockRan (mending n s c) n c kept c' kept' → (c' ≡ sector s) × Among kept' held
+  mended : {c c' shown : Shown} {kept kept' held : List (List ℕ)} → KeptBy c kept shown held → shown ≡ sector s → BlockRan (mending n s c) n c kept c' kept'
+      → (c' ≡ sector s) × Among kept' held
   mended {c} {c'} {kept = kept} {kept'} more same run =
       elim (mending_cases n s c) [
         | inl done ↦ (let still = rw done.0 at run in (still.shows ∙ done.1, λ x m. more.holds x (still.holds x m)))
@@ -38,7 +40,8 @@ module _ (n : ℕ) (s : List ℕ) where
       ]
 
   -- so the mirror shows what it showed, and holds no more
-  both_mended : {a b a' b' : Shown} {ka kb ka' kb' : List (List ℕ)} → pick a b ≡ sector s → BlockRan (mending n s a) n a ka a' ka' → BlockRan (mending n s b) n b kb b' kb' → Both [] n a ka b kb a' ka' b' kb'
+  both_mended : {a b a' b' : Shown} {ka kb ka' kb' : List (List ℕ)} → pick a b ≡ sector s → BlockRan (mending n s a) n a ka a' ka' → BlockRan (mending n s b) n b kb b' kb'
+      → Both [] n a ka b kb a' ka' b' kb'
   both_mended {a} {b} {a'} {b'} {ka} {kb} {ka'} {kb'} shown first second =
       let x = mended (first_kept a b ka kb) shown first in
       let y = mended (second_kept a b ka kb) shown second in
@@ -50,7 +53,8 @@ module _ (n : ℕ) (s : List ℕ) where
       elim (mending_cases n s x) [ inl done ↦ rw done.0 at run | inr todo ↦ block_untouched (write n s) m ne c kept c' kept' (rw todo.0 at run) ]
 
 -- A side is mended after the mirror was read.
-pub side_mended : (n : ℕ) (s : List ℕ) {d d₁ d₂ : List Shown} {h h₁ h₂ : Held} → Ran [] d h d₁ h₁ → Ran (mending n s (shown_at d₁ n)) d₁ h₁ d₂ h₂ → Ran (mending n s (shown_at d n)) d h d₂ h₂
+pub side_mended : (n : ℕ) (s : List ℕ) {d d₁ d₂ : List Shown} {h h₁ h₂ : Held} → Ran [] d h d₁ h₁ → Ran (mending n s (shown_at d₁ n)) d₁ h₁ d₂ h₂
+    → Ran (mending n s (shown_at d n)) d h d₂ h₂
 side_mended n s {d₁ = d₁} read run = rw read.shows at (ran-++ [] (mending n s (shown_at d₁ n)) _ _ _ _ _ _ read run)
 
 -- The mirror was read, and shows s for block n.
@@ -59,7 +63,8 @@ module _ (n : ℕ) (s buffer : List ℕ) (a b : List Shown) (answered : accepted
   shown = rw filled (read_accepted (mirror_shown a b) n buffer answered)
 
   -- then what a side is mended with is what repair writes to it
-  pub side_repaired : {d d₁ d₂ : List Shown} {h h₁ h₂ : Held} → Ran [] d h d₁ h₁ → Ran (mending n s (shown_at d₁ n)) d₁ h₁ d₂ h₂ → Ran (repairing n (shown_at (mirror_shown a b) n) (shown_at d n)) d h d₂ h₂
+  pub side_repaired : {d d₁ d₂ : List Shown} {h h₁ h₂ : Held} → Ran [] d h d₁ h₁ → Ran (mending n s (shown_at d₁ n)) d₁ h₁ d₂ h₂
+      → Ran (repairing n (shown_at (mirror_shown a b) n) (shown_at d n)) d h d₂ h₂
   side_repaired read run = rw shown (side_mended n s read run)
 
   -- both sides are mended at block n: nothing happens to the mirror

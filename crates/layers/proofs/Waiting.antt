@@ -1,12 +1,12 @@
 -- The sector that waits for a block, as the lines change.
-use Rattle.std.proofs.Common.{◌≡◌, ℕ, zero, suc, ◌<◌, false, List, [], ◌∷◌, length, set, Some, None, Option, refl, inl, inr, arith}
-use Rattle.std.proofs.lemmas.Bool.{cases_Bool, eq-eqb, ne_eqb}
+use Rattle.std.proofs.Common.{◌≡◌, ℕ, zero, suc, ◌<◌, List, [], ◌∷◌, length, set, Some, None, refl, inl, inr, arith}
+use Rattle.std.proofs.lemmas.Bool.{cases_Bool}
 use Rattle.std.proofs.lemmas.Bool.Decides.{nat_tests}
 use Rattle.lines.specs.declared.line.Line.{Line}
 use Rattle.device.specs.Blocks.{Shown, sector}
 use Rattle.device.specs.Operations.{joined, block_after_all, may_hold_all}
 use Rattle.device.proofs.Operations.{block_after_all-++, may_hold_all-++}
-use Rattle.lines.specs.Lines.{empty_line, line_at, block_at, same_block, Apart, position, waiting, waiting_in, all_waiting, waiting_for}
+use Rattle.lines.specs.Lines.{empty_line, line_at, block_at, same_block, Apart, all_waiting, waiting_for}
 use Rattle.layers.specs.Caching.{shown_over, held_over}
 use Rattle.lines.proofs.Lines.{same_is, differ, search_for, stands_within, once, at_same, at_other, came_from}
 
