@@ -14,6 +14,7 @@ use Rattle.layers.proofs.CacheRuns.{cache_at, cache_count, kept_below}
 use Rattle.layers.proofs.Waiting.{waits_at}
 use Rattle.layers.proofs.MirrorRuns.{mirror_at, first_kept, second_kept}
 
+-- What is kept below is kept by a cache, and a cache shows what waits.
 pub cache_named : {D : Type 0} (g : Ghosts D) (c : Cache D) → CacheNamed g c
 cache_named g c =
     record {
@@ -21,6 +22,7 @@ cache_named g c =
       waits = λ i n l e. inl (rw (cache_at, waits_at c.table.lines c.table.apart i n e));
     }
 
+-- What a side keeps, the mirror keeps.
 pub mirror_named : {A B : Type 0} (g : Ghosts A) (k : Ghosts B) (m : Mirror A B) → MirrorNamed g k m
 mirror_named g k m =
     record {
