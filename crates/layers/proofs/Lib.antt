@@ -1,3 +1,4 @@
+pub mod Kept
 pub mod Waiting
 pub mod CacheRuns
 pub mod CacheCalls

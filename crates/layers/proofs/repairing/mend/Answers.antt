@@ -3,4 +3,4 @@ use Rattle.layers.proofs.Repairs.{mend_written}
 use Rattle.layers.proofs.repairing.mend.Goals as goal
 
 pub returns-clause-effect : goal.returns-clause-effect
-returns-clause-effect g c = mend_written c.args.n c.args.s.now _ _ _ _ _ _ c.if-shows.ensures.value c.shows.ensures.effect c.write.ensures.effect
+returns-clause-effect g c = mend_written c.if-shows.ensures.value c.shows.ensures.effect c.write.ensures.effect
