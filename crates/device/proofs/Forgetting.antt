@@ -5,7 +5,7 @@ use Rattle.std.proofs.lemmas.Bool.{cases_eq, eq-eqb}
 use Rattle.device.specs.Blocks.{Shown, sector, shown_at, Held, ◌∈◌, blank, is_blank}
 use Rattle.device.specs.Operations.{Op, write, wipe, lose, target, result, block_after, joined, left_by, may_hold, may_hold_all, Ran}
 use Rattle.device.specs.Forgetting.{ForgotAllBut}
-use Rattle.device.proofs.Operations.{at_target, elsewhere, from_joined, block_changed, block_ran, count_after_all, shown_after_all, ran-++}
+use Rattle.device.proofs.Operations.{at_target, elsewhere, from_joined, block_changed, block_ran, ran_count, shown_after_all, ran-++}
 
 -- where a sector that may join comes from
 in_joined : (c : Shown) (kept : List (List ℕ)) (x : List ℕ) → x ∈ joined c kept → (c ≡ sector x) ⊎ (x ∈ kept)
@@ -64,7 +64,7 @@ module _ (n : ℕ) (x : List ℕ) (d d₁ d₂ : List Shown) (h h₁ h₂ : Held
   pub replaced_forgot : ForgotAllBut x n d₂ h₂
   replaced_forgot = forgot_all_but x n d₂ h₂ here shows replaced_holds_nothing where
     here : n < length d₂
-    here = omega (arith, ap length run.shows, count_after_all (wipe n ∷ write n x ∷ []) d)
+    here = omega (arith, ran_count run)
 
     shows : shown_at d₂ n ≡ sector x
     shows = rw (run.shows, shown_after_all (wipe n ∷ write n x ∷ []) d n inside) (simp (eq-eqb n n refl))

@@ -18,6 +18,9 @@ pub count_after_all : (os : List Op) (d : List Shown) → length (after_all os d
 count_after_all [] d = refl
 count_after_all (o ∷ os) d = count_after_all os (after o d) ∙ count_after o d
 
+pub ran_count : {os : List Op} {d d' : List Shown} {h h' : Held} → Ran os d h d' h' → length d' ≡ length d
+ran_count {os} {d} run = ap length run.shows ∙ count_after_all os d
+
 -- an operation at the block that it names, and at another
 pub at_target : {A : Type 0} (o : Op) (n : ℕ) (x y : A) → n ≡ target o → cond (eqb n (target o)) x y ≡ x
 at_target o n x y here = cond-true (eqb n (target o)) x y (eq-eqb n (target o) here)
@@ -124,7 +127,7 @@ ran-++ os ps d d₁ d₂ h h₁ h₂ one two = record { shows = two.shows ∙ ap
   kept : (n : ℕ) → n < length d → (s : List ℕ) → s ∈ h₂ n → s ∈ may_hold_all (os ++ ps) n (shown_at d n) (h n)
   kept n inside s m =
       let first = block_ran os d d₁ h h₁ one n inside in
-      let inside₁ : n < length d₁ = omega (arith, ap length one.shows, count_after_all os d) in
+      let inside₁ : n < length d₁ = omega (arith, ran_count one) in
       let i : s ∈ may_hold_all ps n (block_after_all os n (shown_at d n)) (h₁ n) = rw first.shows at (two.holds n inside₁ s m) in
       rw (may_hold_all-++ os ps n (shown_at d n) (h n)) (may_hold_all_among ps n (block_after_all os n (shown_at d n)) (h₁ n) (may_hold_all os n (shown_at d n) (h n)) first.holds s i)
 

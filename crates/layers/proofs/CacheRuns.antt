@@ -4,14 +4,14 @@ use Rattle.std.proofs.lemmas.List.{set-set, length-set}
 use Rattle.std.proofs.lemmas.Bool.{cases_eq}
 use Rattle.device.specs.Blocks.{Shown, shown_at, Held}
 use Rattle.device.specs.Operations.{Op, write, target, Ran}
-use Rattle.device.proofs.Operations.{Among, kept_joined, to_joined, joined_among, BlockRan, block_ran, ran_by_block, block_untouched, block_elsewhere, block_here, block_changed, ran_nothing, ran-++}
+use Rattle.device.proofs.Operations.{ran_count, Among, kept_joined, to_joined, joined_among, BlockRan, block_ran, ran_by_block, block_untouched, block_elsewhere, block_here, block_changed, ran_nothing, ran-++}
 use Rattle.lines.specs.declared.line.Line.{Line}
 use Rattle.lines.specs.declared.table.Table.{Table}
 use Rattle.lines.specs.Lines.{empty_line, line_of, line_at, block_at, Apart, waiting, waiting_in, all_waiting, waiting_for}
 use Rattle.lines.specs.Tables.{taken, lines_written, evicted, lines_without}
 use Rattle.layers.specs.Caching.{shown_over, held_over, shown_from, cache_shown, cache_held}
 use Rattle.lines.proofs.Lines.{search_for, stands_within, at_same, taken_within, taken_only, apart_set, apart_empty}
-use Rattle.layers.proofs.Kept.{ran_count, KeptBy, left_more}
+use Rattle.layers.proofs.Kept.{KeptBy, left_more}
 use Rattle.layers.proofs.Waiting.{waits_at, waits_not, waiting_other, waiting_new, waiting_gone, all_at}
 
 -- as many blocks as below

@@ -1,12 +1,8 @@
--- What is kept: the count, and what a block of a layer keeps of what is shown and held below it.
-use Rattle.std.proofs.Common.{◌≡◌, false, ◌⊎◌, List, ℕ, length, ap, ◌∙◌, inl, inr, arith}
-use Rattle.device.specs.Blocks.{Shown, Held, sector, ◌∈◌, is_blank}
-use Rattle.device.specs.Operations.{Op, write, wipe, lose, joined, left_by, Ran}
-use Rattle.device.proofs.Operations.{Among, kept_joined, to_joined, from_joined, count_after_all}
-
--- the count is kept
-pub ran_count : {os : List Op} {d d' : List Shown} {h h' : Held} → Ran os d h d' h' → length d' ≡ length d
-ran_count {os} {d} run = ap length run.shows ∙ count_after_all os d
+-- What a block of a layer keeps of what is shown and held below it.
+use Rattle.std.proofs.Common.{◌≡◌, false, ◌⊎◌, List, ℕ, inl, inr, arith}
+use Rattle.device.specs.Blocks.{Shown, sector, ◌∈◌, is_blank}
+use Rattle.device.specs.Operations.{Op, write, wipe, lose, joined, left_by}
+use Rattle.device.proofs.Operations.{Among, kept_joined, to_joined, from_joined}
 
 -- A block shows c and holds kept there, and shows c' and holds kept' here: each sector that is kept there is kept here, but for blank ones.
 pub record KeptBy (c : Shown) (kept : List (List ℕ)) (c' : Shown) (kept' : List (List ℕ)) : Type 0 where

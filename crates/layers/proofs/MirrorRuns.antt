@@ -5,9 +5,9 @@ use Rattle.std.proofs.lemmas.Slice.Eq.{bytes_eq-Decides}
 use Rattle.std.proofs.lemmas.Bool.{cases_Bool}
 use Rattle.device.specs.Blocks.{Shown, lost, sector, shown_at, Held, ◌∈◌, is_blank}
 use Rattle.device.specs.Operations.{Op, target, result, block_after, may_hold, block_after_all, Ran}
-use Rattle.device.proofs.Operations.{Among, to_joined, may_hold_all_among, BlockRan, block_ran, ran_by_block}
+use Rattle.device.proofs.Operations.{ran_count, Among, to_joined, may_hold_all_among, BlockRan, block_ran, ran_by_block}
 use Rattle.layers.specs.Mirroring.{pick, mirror_shown, hidden, held_both, mirror_held}
-use Rattle.layers.proofs.Kept.{ran_count, KeptBy, left_more}
+use Rattle.layers.proofs.Kept.{KeptBy, left_more}
 
 -- as many blocks as the smaller side has
 pub mirror_count : (a b : List Shown) → length (mirror_shown a b) ≡ min (length a) (length b)

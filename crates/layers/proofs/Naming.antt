@@ -4,12 +4,13 @@ use Rattle.device.specs.Operations.{wipe}
 use Rattle.device.specs.Effects.{Effect, KeepsNothing}
 use Rattle.device.specs.declared.traits.Device.{Ghosts}
 use Rattle.device.proofs.Forgetting.{wiped}
+use Rattle.device.proofs.Operations.{ran_count}
 use Rattle.layers.specs.declared.cache.Cache.{Cache}
 use Rattle.layers.specs.declared.mirror.Mirror.{Mirror}
 use Rattle.lines.specs.Lines.{waiting_for}
 use Rattle.layers.specs.Caching.{cached, CacheNamed}
 use Rattle.layers.specs.Mirroring.{mirrored, MirrorNamed}
-use Rattle.layers.proofs.Kept.{ran_count, keeps}
+use Rattle.layers.proofs.Kept.{keeps}
 use Rattle.layers.proofs.CacheRuns.{cache_at, cache_count, kept_below}
 use Rattle.layers.proofs.Waiting.{waits_at}
 use Rattle.layers.proofs.MirrorRuns.{mirror_at, first_kept, second_kept}
