@@ -2,11 +2,11 @@
 use Rattle.layers.proofs.Repairs.{side_mended, side_repaired, both_repaired}
 use Rattle.layers.proofs.mirror.Mirror.repair.Goals as goal
 
-pub returns-clause-first : goal.returns-clause-first
-returns-clause-first g c = let read = c.in_ok-read.ensures in side_repaired c.args.n c.read.new.buf _ _ _ read.answer read.buffer read.first c.mend.ensures.effect
-
 pub returns-clause-second : goal.returns-clause-second
 returns-clause-second g c = let read = c.in_ok-read.ensures in side_repaired c.args.n c.read.new.buf _ _ _ read.answer read.buffer read.second c.mend-2.ensures.effect
+
+pub returns-clause-first : goal.returns-clause-first
+returns-clause-first g c = let read = c.in_ok-read.ensures in side_repaired c.args.n c.read.new.buf _ _ _ read.answer read.buffer read.first c.mend.ensures.effect
 
 pub returns-clause-effect : goal.returns-clause-effect
 returns-clause-effect g c =
