@@ -5,7 +5,7 @@ use Rattle.std.proofs.lemmas.List.FromFn.{length-map-range_with_len}
 use Rattle.std.proofs.lemmas.List.{length-set, get_or-set_same, get_or-set_other, length-replicate, drop-replicate, take-replicate, take_all}
 use Rattle.std.proofs.lemmas.Bool.{cases_eq, cases_lt, cond_both, both_ways, eq-eqb, ltb-true, ltb-false, not-true}
 use Rattle.device.specs.Blocks.{sector, shown_at, ◌∈◌, blank, is_blank}
-use Rattle.device.specs.Operations.{Op, write, wipe, lose, target, result, left_by}
+use Rattle.device.specs.Operations.{Op, write, wipe, lose, target, outcome, left_by}
 use Rattle.device.proofs.Operations.{Among, BlockRan, block_here, block_elsewhere, ran_by_block, ran_past}
 use Rattle.bottoms.specs.Formats.{Format, Lawful}
 use Rattle.bottoms.specs.Images.{count, state, part, place_at, place, showing, block, image_shown, hidden, is_held, image_held, overwritten, if_block, write_image, wipe_image, mark_image, Runs}
@@ -39,7 +39,7 @@ module _ (F : Format) (laws : Lawful F) (m m' : List ℕ) (o : Op) (len : length
   Went k = BlockRan (o ∷ []) k (block F m k) (image_held F m k) (block F m' k) (image_held F m' k)
 
   -- the operation that the block went through
-  runs_op : block F m' (target o) ≡ result o → Among (image_held F m' (target o)) (left_by o (block F m (target o)) (image_held F m (target o))) → Runs F (o ∷ []) m m'
+  runs_op : block F m' (target o) ≡ outcome o → Among (image_held F m' (target o)) (left_by o (block F m (target o)) (image_held F m (target o))) → Runs F (o ∷ []) m m'
   runs_op here kept = ran_by_block (o ∷ []) (image_shown F m) (image_shown F m') (image_held F m) (image_held F m') (omega (arith, same, count_shown F m, count_shown F m')) each where
     same : count F m' ≡ count F m
     same = count_same F m m' len

@@ -6,7 +6,7 @@ mod pile;
 mod seen;
 mod trouble;
 
-use bottoms::{Card, Placement, Plain, Rotating};
+use bottoms::{Card, InPlace, Placement, Rotation};
 use device::{Device, DeviceFault, blank_sector, replace};
 use seen::{Seen, sector_of};
 use std::process::ExitCode;
@@ -76,16 +76,21 @@ impl<R: Print + Alloc, P: Placement> Story<'_, '_, R, P> {
     }
 }
 
+// The stories of a card of this kind on these bytes.
+fn on_card<P: Placement>(
+    rt: &(impl Print + Alloc),
+    kind: &str,
+    bytes: &mut [u8],
+) -> Result<(), Trouble> {
+    println!(rt; "On a {kind:<25}reading shows     sectors also held")?;
+    let card = Card::<P>::open(bytes, BLOCKS)?;
+    Story { rt, card }.tell()
+}
+
 fn run(rt: &(impl Print + Alloc)) -> Result<(), Trouble> {
     println!(rt; "A name is written to block {BLOCK} of a card and erased.")?;
-    println!(rt; "On a plain card               reading shows     sectors also held")?;
-    let mut bytes = [0u8; 260];
-    let card = Plain::open(&mut bytes, BLOCKS)?;
-    Story { rt, card }.tell()?;
-    println!(rt; "On a rotating card            reading shows     sectors also held")?;
-    let mut bytes = [0u8; 1028];
-    let card = Rotating::open(&mut bytes, BLOCKS)?;
-    Story { rt, card }.tell()?;
+    on_card::<InPlace>(rt, "plain card", &mut [0; 260])?;
+    on_card::<Rotation>(rt, "rotating card", &mut [0; 1028])?;
     println!(rt; "Zeros take the name out of sight. Only a wipe takes it off the card.")?;
     Ok(())
 }

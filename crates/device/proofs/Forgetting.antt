@@ -3,7 +3,7 @@ use Rattle.std.proofs.Common.{◌≡◌, ℕ, ◌<◌, true, false, cond, eqb, �
 use mathlib.Core.List.Memᴰ
 use Rattle.std.proofs.lemmas.Bool.{cases_eq, eq-eqb}
 use Rattle.device.specs.Blocks.{Shown, sector, shown_at, Held, ◌∈◌, blank, is_blank}
-use Rattle.device.specs.Operations.{Op, write, wipe, lose, target, result, block_after, joined, left_by, may_hold, may_hold_all, Ran}
+use Rattle.device.specs.Operations.{Op, write, wipe, lose, target, outcome, block_after, joined, left_by, may_hold, may_hold_all, Ran}
 use Rattle.device.specs.Forgetting.{ForgotAllBut}
 use Rattle.device.proofs.Operations.{at_target, elsewhere, from_joined, block_changed, block_ran, ran_count, shown_after_all, ran-++}
 
@@ -20,7 +20,7 @@ in_may_hold : (o : Op) (n : ℕ) (c : Shown) (kept : List (List ℕ)) (x : List 
 in_may_hold o n c kept x m = elim (eqb n (target o)) as (λ b. x ∈ cond b (left_by o c kept) kept → (c ≡ sector x) ⊎ (x ∈ kept)) [ true ↦ in_left o c kept x | false ↦ inr ] m
 
 -- a sector that isn't blank is shown after an operation only if that wrote it, or if it was shown before
-shown_by : (o : Op) (x : List ℕ) → is_blank x ≡ false → result o ≡ sector x → o ≡ write (target o) x
+shown_by : (o : Op) (x : List ℕ) → is_blank x ≡ false → outcome o ≡ sector x → o ≡ write (target o) x
 shown_by (write n s) x b e = cc
 shown_by (wipe n) x b e = let z : blank ≡ x = cc in cc (ap is_blank z)
 shown_by (lose n) x b e = cc
@@ -28,8 +28,8 @@ shown_by (lose n) x b e = cc
 block_by : (o : Op) (n : ℕ) (c : Shown) (x : List ℕ) → is_blank x ≡ false → block_after o n c ≡ sector x → (c ≡ sector x) ⊎ (write n x ≡ o)
 block_by o n c x b e =
     elim (cases_eq n (target o)) [
-      | inl here ↦ inr (cc (shown_by o x b (sym (at_target o n (result o) c here) ∙ e)))
-      | inr ne ↦ inl (sym (elsewhere o n (result o) c ne) ∙ e)
+      | inl here ↦ inr (cc (shown_by o x b (sym (at_target o n (outcome o) c here) ∙ e)))
+      | inr ne ↦ inl (sym (elsewhere o n (outcome o) c ne) ∙ e)
     ]
 
 -- Whatever operations a block goes through, a sector that isn't blank and that it may hold then was held or shown before, or was written to it.

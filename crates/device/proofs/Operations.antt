@@ -4,7 +4,7 @@ use mathlib.Core.List.Memᴰ
 use Rattle.std.proofs.lemmas.List.{ext_get_or, length-set, get_or-set_same, get_or-set_other, set_past}
 use Rattle.std.proofs.lemmas.Bool.{cases_Bool, cases_eq, cond-true, cond-false, eq-eqb, ne_eqb}
 use Rattle.device.specs.Blocks.{Shown, lost, sector, shown_at, Held, ◌∈◌, is_blank}
-use Rattle.device.specs.Operations.{Op, write, wipe, lose, target, result, after, block_after, joined, left_by, may_hold, after_all, block_after_all, may_hold_all, Ran}
+use Rattle.device.specs.Operations.{Op, write, wipe, lose, target, outcome, after, block_after, joined, left_by, may_hold, after_all, block_after_all, may_hold_all, Ran}
 
 -- Sectors that are all among others.
 abbrev pub Among : List (List ℕ) → List (List ℕ) → Type 0
@@ -12,7 +12,7 @@ Among xs ys = (s : List ℕ) → s ∈ xs → s ∈ ys
 
 -- no operation changes the count
 count_after : (o : Op) (d : List Shown) → length (after o d) ≡ length d
-count_after o d = length-set d (target o) (result o)
+count_after o d = length-set d (target o) (outcome o)
 
 pub count_after_all : (os : List Op) (d : List Shown) → length (after_all os d) ≡ length d
 count_after_all [] d = refl
@@ -32,8 +32,8 @@ elsewhere o n x y ne = cond-false (eqb n (target o)) x y (ne_eqb n (target o) ne
 shown_after : (o : Op) (d : List Shown) (n : ℕ) → n < length d → shown_at (after o d) n ≡ block_after o n (shown_at d n)
 shown_after o d n inside =
     elim (cases_eq n (target o)) [
-      | inl here ↦ rw (at_target o n (result o) (shown_at d n) here, here) (get_or-set_same d (target o) (result o) lost (omega arith))
-      | inr ne ↦ rw (elsewhere o n (result o) (shown_at d n) ne) (get_or-set_other d (target o) n (result o) lost ne)
+      | inl here ↦ rw (at_target o n (outcome o) (shown_at d n) here, here) (get_or-set_same d (target o) (outcome o) lost (omega arith))
+      | inr ne ↦ rw (elsewhere o n (outcome o) (shown_at d n) ne) (get_or-set_other d (target o) n (outcome o) lost ne)
     ]
 
 pub shown_after_all : (os : List Op) (d : List Shown) (n : ℕ) → n < length d → shown_at (after_all os d) n ≡ block_after_all os n (shown_at d n)
@@ -94,18 +94,18 @@ pub record BlockRan (os : List Op) (n : ℕ) (c : Shown) (kept : List (List ℕ)
 -- an operation on another block leaves this one alone
 module _ (o : Op) (n : ℕ) (ne : n ≡ target o → ⊥) (c : Shown) (kept : List (List ℕ)) (c' : Shown) (kept' : List (List ℕ)) where
   pub block_untouched : BlockRan (o ∷ []) n c kept c' kept' → BlockRan [] n c kept c' kept'
-  block_untouched run = record { shows = run.shows ∙ elsewhere o n (result o) c ne; holds = rw (elsewhere o n (left_by o c kept) kept ne) at run.holds }
+  block_untouched run = record { shows = run.shows ∙ elsewhere o n (outcome o) c ne; holds = rw (elsewhere o n (left_by o c kept) kept ne) at run.holds }
 
   pub block_elsewhere : BlockRan [] n c kept c' kept' → BlockRan (o ∷ []) n c kept c' kept'
-  block_elsewhere run = record { shows = run.shows ∙ sym (elsewhere o n (result o) c ne); holds = rw (elsewhere o n (left_by o c kept) kept ne) run.holds }
+  block_elsewhere run = record { shows = run.shows ∙ sym (elsewhere o n (outcome o) c ne); holds = rw (elsewhere o n (left_by o c kept) kept ne) run.holds }
 
 -- the block that an operation names
 module _ (o : Op) (n : ℕ) (here : n ≡ target o) (c : Shown) (kept : List (List ℕ)) (c' : Shown) (kept' : List (List ℕ)) where
-  pub block_here : c' ≡ result o → Among kept' (left_by o c kept) → BlockRan (o ∷ []) n c kept c' kept'
-  block_here e among = record { shows = e ∙ sym (at_target o n (result o) c here); holds = rw (at_target o n (left_by o c kept) kept here) among }
+  pub block_here : c' ≡ outcome o → Among kept' (left_by o c kept) → BlockRan (o ∷ []) n c kept c' kept'
+  block_here e among = record { shows = e ∙ sym (at_target o n (outcome o) c here); holds = rw (at_target o n (left_by o c kept) kept here) among }
 
-  pub block_changed : BlockRan (o ∷ []) n c kept c' kept' → (c' ≡ result o) × Among kept' (left_by o c kept)
-  block_changed run = (run.shows ∙ at_target o n (result o) c here, rw (at_target o n (left_by o c kept) kept here) at run.holds)
+  pub block_changed : BlockRan (o ∷ []) n c kept c' kept' → (c' ≡ outcome o) × Among kept' (left_by o c kept)
+  block_changed run = (run.shows ∙ at_target o n (outcome o) c here, rw (at_target o n (left_by o c kept) kept here) at run.holds)
 
 -- a run, seen at one block
 pub block_ran : (os : List Op) (d d' : List Shown) (h h' : Held) → Ran os d h d' h' → (n : ℕ) → n < length d → BlockRan os n (shown_at d n) (h n) (shown_at d' n) (h' n)
@@ -135,6 +135,6 @@ ran-++ os ps d d₁ d₂ h h₁ h₂ one two = record { shows = two.shows ∙ ap
 pub ran_past : (o : Op) (d : List Shown) (h : Held) → length d ≤ target o → Ran (o ∷ []) d h d h
 ran_past o d h past =
     record {
-      shows = sym (set_past d (target o) (result o) past);
+      shows = sym (set_past d (target o) (outcome o) past);
       holds = λ n inside s m. let ne : n ≡ target o → ⊥ = λ e. omega arith in rw (elsewhere o n (left_by o (shown_at d n) (h n)) (h n) ne) m;
     }

@@ -15,18 +15,18 @@ target (wipe n) = n
 target (lose n) = n
 
 -- what that block shows then
-abbrev pub result : Op → Shown
-result (write n s) = sector s
-result (wipe n) = sector blank
-result (lose n) = lost
+abbrev pub outcome : Op → Shown
+outcome (write n s) = sector s
+outcome (wipe n) = sector blank
+outcome (lose n) = lost
 
 -- The blocks shown after an operation. One that names a block past the count changes nothing.
 abbrev pub after : Op → List Shown → List Shown
-after o d = slice_set d (target o) (result o)
+after o d = slice_set d (target o) (outcome o)
 
 -- the same for block n alone, which showed c
 abbrev pub block_after : Op → ℕ → Shown → Shown
-block_after o n c = if n == target o then result o else c
+block_after o n c = if n == target o then outcome o else c
 
 -- what a block may hold once it shows something else: the sector shown before joins, unless it is blank
 abbrev pub joined : Shown → List (List ℕ) → List (List ℕ)

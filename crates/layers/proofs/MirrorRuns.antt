@@ -4,7 +4,7 @@ use mathlib.Core.List.Memᴰ
 use Rattle.std.proofs.lemmas.Slice.Eq.{bytes_eq-Decides}
 use Rattle.std.proofs.lemmas.Bool.{cases_Bool}
 use Rattle.device.specs.Blocks.{Shown, lost, sector, shown_at, Held, ◌∈◌, is_blank}
-use Rattle.device.specs.Operations.{Op, target, result, block_after, may_hold, block_after_all, Ran}
+use Rattle.device.specs.Operations.{Op, target, outcome, block_after, may_hold, block_after_all, Ran}
 use Rattle.device.proofs.Operations.{ran_count, Among, to_joined, may_hold_all_among, BlockRan, block_ran, ran_by_block}
 use Rattle.layers.specs.Mirroring.{pick, mirror_shown, hidden, held_both, mirror_held}
 use Rattle.layers.proofs.Kept.{KeptBy, left_more}
@@ -71,8 +71,8 @@ one_after : (o : Op) (n : ℕ) (a b : Shown) (ka kb : List (List ℕ)) → Both 
 one_after o n a b ka kb =
     elim (cases_Bool (eqb n (target o))) [
       | inl t ↦ record {
-        shows = rw t (pick_same (result o));
-        holds = rw t (held_within (result o) (result o) _ _ (left_more (first_kept a b ka kb) o) (left_more (second_kept a b ka kb) o) (none_hidden {a = result o} refl));
+        shows = rw t (pick_same (outcome o));
+        holds = rw t (held_within (outcome o) (outcome o) _ _ (left_more (first_kept a b ka kb) o) (left_more (second_kept a b ka kb) o) (none_hidden {a = outcome o} refl));
       }
       | inr f ↦ record { shows = rw f; holds = rw f (λ s m. m) }
     ]

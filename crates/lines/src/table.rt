@@ -23,15 +23,24 @@ impl Table {
     ghost use Rattle.lines.specs.Lines.{empty_line, OnlyIn, position, waiting_for, all_waiting};
     ghost use Rattle.lines.specs.Tables.{room, next_turn, lines_written, turn_written, evicted, lines_without};
 
+    // Four empty lines, and this turn.
+    fn empty(turn: usize) -> Table
+        requires { turn < 4 }
+        ensures lines { result.lines ≡ replicate 4 empty_line }
+        ensures turn { result.turn ≡ turn }
+    {
+        Table {
+            lines: [Line::empty(); 4],
+            turn,
+        }
+    }
+
     // Four empty lines.
     pub fn new() -> Table
         ensures lines { result.lines ≡ replicate 4 empty_line }
         ensures turn { result.turn ≡ 0 }
     {
-        Table {
-            lines: [Line::empty(); 4],
-            turn: 0,
-        }
+        Table::empty(0)
     }
 
     // The first line for this block, or the first empty one for None.
@@ -131,9 +140,6 @@ impl Table {
         ensures lines { result.lines ≡ replicate 4 empty_line }
         ensures turn { result.turn ≡ self.turn }
     {
-        Table {
-            lines: [Line::empty(); 4],
-            turn: self.turn,
-        }
+        Table::empty(self.turn)
     }
 }
