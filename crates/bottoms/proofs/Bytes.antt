@@ -1,8 +1,5 @@
 -- Bytes written over others, seen byte by byte and in parts of 64.
-use Rattle.std.proofs.Common.{◌≡◌, eqb, ◌&&◌, ℕ, ◌+◌, ◌-◌, ◌<◌, ◌≤◌, List, ◌++◌, length, get_or, take, drop, set, sym, refl, ap, ◌∙◌, arith}
-use Rattle.std.specs.List.{list_all}
-use Rattle.std.proofs.lemmas.List.Recursion.{same_from_clauses}
-use Rattle.device.specs.Blocks.{is_blank}
+use Rattle.std.proofs.Common.{◌≡◌, ℕ, ◌+◌, ◌-◌, ◌<◌, ◌≤◌, List, ◌++◌, length, get_or, take, drop, set, sym, refl, ap, ◌∙◌, arith}
 use Rattle.std.proofs.lemmas.Grind.{common_steps}
 use borrow.Rule.Slice.PartMut.{put_mid}
 use Rattle.std.proofs.lemmas.List.{length-drop, take-take, drop-drop, drop_at, length-take-le, drop-append-le, take-append-le, drop-set-lt, drop-take}
@@ -49,7 +46,3 @@ module _ (a : ℕ) (ys m : List ℕ) (room : a + length ys ≤ length m) where
       let rest : List ℕ = drop (a + length ys) m in
       ap (take 64) (sym (drop-drop b a (overwritten a ys m)) ∙ ap (drop b) (drop_at (take a m) (ys ++ rest) a (length-take-le a m start)) ∙ drop-append-le b ys rest le)
       ∙ take-append-le 64 (drop b ys) rest wide
-
--- the test of every byte in turn
-pub blank_is_all : (xs : List ℕ) → is_blank xs ≡ list_all (λ b. eqb b 0) xs
-blank_is_all xs = same_from_clauses is_blank (list_all (λ b. eqb b 0)) (λ b r. eqb b 0 && r) refl (λ _ _. refl) (λ _ _. refl) xs

@@ -26,7 +26,6 @@ impl Block<'_> {
     }
 
     // Whether place j counts as held: it isn't shown, and it isn't blank.
-    #[tactic(auto, using(crate::proofs::Bytes::blank_is_all))]
     fn is_held(&self, j: usize) -> bool
         requires { 64 * j + 64 ≤ length self.now.places.now }
         ensures { result ≡ is_held (place_in self.now.places.now) self.now.shown j }

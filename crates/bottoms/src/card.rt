@@ -20,15 +20,22 @@ pub struct Card<'a, P> {
     placement: P,
 }
 
+// Where a block lies: the index of its state, and the start of its first place.
+#[derive(Clone, Copy)]
+struct Location {
+    state: usize,
+    first: usize,
+}
+
 // The card that writes a block over where it lies.
 pub type Plain<'a> = Card<'a, InPlace>;
 
 // The card that writes each time to the next of a block's four places.
 pub type Rotating<'a> = Card<'a, Rotation>;
 
-#[tactic(auto, using(crate::proofs::Changes::count_shown, crate::proofs::Places::count_fits, crate::proofs::Places::places_inside, crate::proofs::Named::image_named))]
 impl<'a, P: Placement> Card<'a, P> {
     // The card of so many blocks that these bytes are. Nothing is written, and refused memory is handed back.
+    #[tactic(auto, using(crate::proofs::Changes::count_shown, crate::proofs::Places::count_fits))]
     pub fn open(bytes: &'a mut [u8], count: u32) -> Result<Card<'a, P>, Refused<'a>>
         ensures answer { opening_of (λ d. d.bytes.now) result ≡ opening P.Placement.format bytes.old count }
         ensures blocks { IfOk result (λ d. length (image_shown P.Placement.format d.bytes.now) ≡ count) }
@@ -40,28 +47,33 @@ impl<'a, P: Placement> Card<'a, P> {
         }
     }
 
-    // Where block n lies: the index of its state, and the start of its first place.
-    fn find(&self, n: u32) -> Result<(usize, usize), DeviceFault>
-        ensures { MatchResult result (λ p. Located (length self.now.bytes.now) P.Placement.format.places n p.0 p.1) (λ f. (length (image_shown P.Placement.format self.now.bytes.now) ≤ n) × (f ≡ NoBlock n)) }
+    // Where block n lies.
+    #[tactic(auto, using(crate::proofs::Changes::count_shown))]
+    fn find(&self, n: u32) -> Result<Location, DeviceFault>
+        ensures { MatchResult result (λ l. Located (length self.now.bytes.now) P.Placement.format.places n l.state l.first) (λ f. (length (image_shown P.Placement.format self.now.bytes.now) ≤ n) × (f ≡ NoBlock n)) }
     {
         let count = self.count();
         check_block(count, n)?;
-        let i = n as usize;
-        Ok((i, count as usize + 64 * (self.placement.places() * i)))
+        let state = n as usize;
+        Ok(Location {
+            state,
+            first: count as usize + 64 * (self.placement.places() * state),
+        })
     }
 
     // The places of block n, and which of them is shown.
     fn block(&self, n: u32) -> Result<Block<'_>, DeviceFault>
         ensures { MatchResult result (λ b. Lent P.Placement.format self.now.bytes.now n b.places.now b.shown) (λ f. (length (image_shown P.Placement.format self.now.bytes.now) ≤ n) × (f ≡ NoBlock n)) }
     {
-        let (i, first) = self.find(n)?;
+        let at = self.find(n)?;
         Ok(Block {
-            places: &self.bytes[first..first + 64 * self.placement.places()],
-            shown: self.placement.shown(self.bytes[i]),
+            places: &self.bytes[at.first..at.first + 64 * self.placement.places()],
+            shown: self.placement.shown(self.bytes[at.state]),
         })
     }
 
     // How many sectors that aren't blank the card keeps for block n beside the one shown. These and those shown are all that it keeps.
+    #[tactic(auto, using(crate::proofs::Named::image_named))]
     pub fn held_count(&self, n: u32) -> Result<usize, DeviceFault>
         ensures answer { answer_of result ≡ of_block (image_shown P.Placement.format self.now.bytes.now) n (accepted (length (image_held P.Placement.format self.now.bytes.now n))) }
         ensures named { Named P.Placement.format self.now.bytes.now }
@@ -100,12 +112,12 @@ impl<P: Placement> Device for Card<'_, P> {
         ensures effect { Runs P.Placement.format (write n s.now ∷ []) self.old.bytes.now self.new.bytes.now }
         ensures image { self.new.bytes.now ≡ write_image P.Placement.format self.old.bytes.now n s.now }
     {
-        let (i, first) = self.find(n)?;
-        let state = self.bytes[i];
+        let at = self.find(n)?;
+        let state = self.bytes[at.state];
         let next = self.placement.next(state);
-        let at = first + 64 * usize::from(next);
-        self.bytes[i] = next;
-        fill(&mut self.bytes[at..at + 64], s);
+        let start = at.first + 64 * usize::from(next);
+        self.bytes[at.state] = next;
+        fill(&mut self.bytes[start..start + 64], s);
         Ok(())
     }
 
@@ -114,10 +126,10 @@ impl<P: Placement> Device for Card<'_, P> {
         ensures effect { Runs P.Placement.format (wipe n ∷ []) self.old.bytes.now self.new.bytes.now }
         ensures image { self.new.bytes.now ≡ wipe_image P.Placement.format self.old.bytes.now n }
     {
-        let (i, first) = self.find(n)?;
+        let at = self.find(n)?;
         let places = self.placement.places();
-        self.bytes[i] = 0;
-        erase(&mut self.bytes[first..first + 64 * places]);
+        self.bytes[at.state] = 0;
+        erase(&mut self.bytes[at.first..at.first + 64 * places]);
         Ok(())
     }
 
@@ -126,9 +138,9 @@ impl<P: Placement> Device for Card<'_, P> {
         ensures effect { Runs P.Placement.format (lose n ∷ []) self.old.bytes.now self.new.bytes.now }
         ensures image { self.new.bytes.now ≡ mark_image P.Placement.format self.old.bytes.now n }
     {
-        let (i, _) = self.find(n)?;
-        let state = self.bytes[i];
-        self.bytes[i] = self.placement.marked(state);
+        let at = self.find(n)?;
+        let state = self.bytes[at.state];
+        self.bytes[at.state] = self.placement.marked(state);
         Ok(())
     }
 

@@ -26,7 +26,7 @@ pub(crate) fn count_blocks(len: usize, places: usize) -> u32
     (len / (1 + 64 * places)).min(1024) as u32
 }
 
-// Fills a place with the sector.
+// Fills a place with the sector. This and the next are functions of their own, so that a wrong one is refused at its own clause.
 pub(crate) fn fill(place: &mut [u8], s: &Sector)
     requires { length place.old ≡ 64 }
     ensures { place.new ≡ s.now }

@@ -11,12 +11,12 @@ type Pile<'a> = Cache<Mirror<Plain<'a>, Rotating<'a>>>;
 
 // A pile, and the lines that tell what becomes of it.
 #[derive(Drop)]
-struct Story<'a> {
+struct PileStory<'a> {
     pile: Pile<'a>,
     text: String,
 }
 
-impl Story<'_> {
+impl PileStory<'_> {
     // Adds a line: what reading the block shows through the pile and on each card, how many sectors the cards hold beside that, and whether
     // a sector waits for the block.
     fn report(&mut self, label: &str) -> Result<(), Trouble> {
@@ -74,7 +74,7 @@ fn tell(alloc: Global) -> Result<String, Trouble> {
     let mut second = [0u8; 1028];
     let plain = Plain::open(&mut first, BLOCKS)?;
     let rotating = Rotating::open(&mut second, BLOCKS)?;
-    let mut story = Story {
+    let mut story = PileStory {
         pile: Cache::new(Mirror::new(plain, rotating)),
         text: String::new(alloc),
     };

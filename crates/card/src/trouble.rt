@@ -16,7 +16,7 @@ pub enum Trouble {
     Memory,
 }
 
-// The conversions are written by hand, since a derived one promises nothing of the trouble that it gives.
+// The conversions are written by hand: a derived one gives no `from_gives`, so the promise of each would be lost.
 impl From<Refused<'_>> for Trouble {
     ghost from_gives = { λ refusal r. r ≡ Open refusal.fault };
 

@@ -10,9 +10,6 @@ use Rattle.device.specs.Answers.{Answer, accepted, refused, of_block, read_block
 pub read_within : (d : List Shown) (n : ℕ) (c : Shown) → n < length d → shown_at d n ≡ c → read_answer d n ≡ read_block n c
 read_within d n c inside e = grind (arith, nat_tests)
 
-pub buffer_within : (d : List Shown) (n : ℕ) (c : Shown) (buffer : List ℕ) → shown_at d n ≡ c → read_buffer d n buffer ≡ filled c buffer
-buffer_within d n c buffer e = rw e
-
 -- two devices that both have a block n are read alike where they show the same for it
 pub read_same : (d d' : List Shown) (n : ℕ) → n < length d → n < length d' → shown_at d n ≡ shown_at d' n → read_answer d n ≡ read_answer d' n
 read_same d d' n inside inside' e = read_within d n (shown_at d' n) inside e ∙ sym (read_within d' n (shown_at d' n) inside' refl)

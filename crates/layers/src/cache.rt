@@ -41,10 +41,17 @@ impl<D: Device> Cache<D> {
     {
         self.table.sector_for(n).is_some()
     }
+
+    // Refuses a block number that is past the count.
+    fn check(&self, n: u32) -> Result<(), DeviceFault>
+        ensures { MatchResult result (λ _. n < length ((cached D.Device).shown self.now)) (λ f. (length ((cached D.Device).shown self.now) ≤ n) × (f ≡ NoBlock n)) }
+    {
+        check_block(self.count(), n)
+    }
 }
 
-// A wipe and a mark are alike but for the call that each passes on, which is less than a function for both would take.
-#[tactic(auto, using(crate::proofs::CacheRuns::cache_count, crate::proofs::Naming::cache_named))]
+// A wipe and a mark differ in one call. A function for both would take it as a closure, and the clauses would stand at both all the same.
+#[tactic(auto, using(crate::proofs::CacheRuns::cache_count))]
 impl<D: Device> Device for Cache<D> {
     ghost shown = { (cached D.Device).shown };
 
@@ -53,6 +60,7 @@ impl<D: Device> Device for Cache<D> {
     ghost settled = { (cached D.Device).settled };
 
     // How many blocks there are. Whatever is kept in the lines or below is shown or held.
+    #[tactic(auto, using(crate::proofs::CacheRuns::cache_count, crate::proofs::Naming::cache_named))]
     fn count(&self) -> u32
         ensures count { result ≡ length ((cached D.Device).shown self.now) }
         ensures most { result ≤ 1024 }
@@ -70,7 +78,7 @@ impl<D: Device> Device for Cache<D> {
         ensures turn { self.new.table.turn ≡ self.old.table.turn }
         ensures below { Effect D.Device [] self.old.below self.new.below }
     {
-        check_block(self.count(), n)?;
+        self.check(n)?;
         match self.table.sector_for(n) {
             Some(s) => {
                 *buf = s;
@@ -88,7 +96,7 @@ impl<D: Device> Device for Cache<D> {
         ensures turn { self.new.table.turn ≡ if_block (D.Device.shown self.old.below) n (turn_written self.old.table n) self.old.table.turn }
         ensures below { Effect D.Device (if_block (D.Device.shown self.old.below) n (waiting (evicted self.old.table n)) []) self.old.below self.new.below }
     {
-        check_block(self.count(), n)?;
+        self.check(n)?;
         let (table, left) = self.table.write(n, s);
         left.write_back(&mut self.below);
         self.table = table;
@@ -103,7 +111,7 @@ impl<D: Device> Device for Cache<D> {
         ensures turn { self.new.table.turn ≡ self.old.table.turn }
         ensures below { Effect D.Device (wipe n ∷ []) self.old.below self.new.below }
     {
-        check_block(self.count(), n)?;
+        self.check(n)?;
         self.table = self.table.without(n);
         self.below.wipe(n)
     }
@@ -116,7 +124,7 @@ impl<D: Device> Device for Cache<D> {
         ensures turn { self.new.table.turn ≡ self.old.table.turn }
         ensures below { Effect D.Device (lose n ∷ []) self.old.below self.new.below }
     {
-        check_block(self.count(), n)?;
+        self.check(n)?;
         self.table = self.table.without(n);
         self.below.mark(n)
     }

@@ -36,7 +36,6 @@ impl<A: Device, B: Device> Mirror<A, B> {
 
 // A side refuses no change of a block that both have, so its answer to one says nothing new. The three changes are alike but for the call
 // that each makes; one function for them would take a closure for either side, and be no shorter.
-#[tactic(auto, using(crate::proofs::MirrorRuns::both_sides, crate::proofs::MirrorRuns::mirror_count, crate::proofs::Naming::mirror_named))]
 impl<A: Device, B: Device> Device for Mirror<A, B> {
     ghost shown = { (mirrored A.Device B.Device).shown };
 
@@ -45,6 +44,7 @@ impl<A: Device, B: Device> Device for Mirror<A, B> {
     ghost settled = { (mirrored A.Device B.Device).settled };
 
     // How many blocks there are. Whatever is kept on either side is shown or held.
+    #[tactic(auto, using(crate::proofs::MirrorRuns::mirror_count, crate::proofs::Naming::mirror_named))]
     fn count(&self) -> u32
         ensures count { result ≡ length ((mirrored A.Device B.Device).shown self.now) }
         ensures most { result ≤ 1024 }
@@ -62,6 +62,7 @@ impl<A: Device, B: Device> Device for Mirror<A, B> {
         ensures second { Effect B.Device [] self.old.b self.new.b }
     {
         self.check(n)?;
+        // a `match`, since of an `or_else` the check doesn't find four of the clauses
         match self.a.read(n, buf) {
             Ok(()) => Ok(()),
             Err(_) => self.b.read(n, buf),

@@ -32,25 +32,37 @@ impl Call {
 }
 
 // How many of the calls are accepted, the last byte that was read, and the count of blocks.
-fn run<D: Device>(device: &mut D, calls: &[Call]) -> (usize, u8, u32) {
+#[derive(Clone, Copy, PartialEq, Eq, Debug)]
+struct Answers {
+    accepted: usize,
+    read: u8,
+    count: u32,
+}
+
+// Makes the calls, one after the other.
+fn run<D: Device>(device: &mut D, calls: &[Call]) -> Answers {
     let mut buffer = blank_sector();
     let accepted = calls
         .iter()
         .map(|call| call.apply(device, &mut buffer))
         .filter(|answer| answer.is_ok())
         .count();
-    (accepted, buffer[63], device.count())
+    Answers {
+        accepted,
+        read: buffer[63],
+        count: device.count(),
+    }
 }
 
 // The same on a new pile over cards of six blocks, and on one card.
-fn on_pile(calls: &[Call], first: &mut [u8], second: &mut [u8]) -> Result<(usize, u8, u32), Fail> {
+fn on_pile(calls: &[Call], first: &mut [u8], second: &mut [u8]) -> Result<Answers, Fail> {
     let plain = Plain::open(first, 6)?;
     let rotating = Rotating::open(second, 6)?;
     let mut pile = Cache::new(Mirror::new(plain, rotating));
     Ok(run(&mut pile, calls))
 }
 
-fn on_card<P: Placement>(calls: &[Call], bytes: &mut [u8]) -> Result<(usize, u8, u32), Fail> {
+fn on_card<P: Placement>(calls: &[Call], bytes: &mut [u8]) -> Result<Answers, Fail> {
     let mut card = Card::<P>::open(bytes, 6)?;
     Ok(run(&mut card, calls))
 }
@@ -65,7 +77,12 @@ fn alike(calls: &[Call], accepted: usize, read: u8, below: &[Call]) -> Result<bo
     on_card::<InPlace>(below, &mut plain_alone)?;
     let mut rotating_alone = [0; 1542];
     on_card::<Rotation>(below, &mut rotating_alone)?;
-    Ok(answered == (accepted, read, 6) && plain == plain_alone && rotating == rotating_alone)
+    let expected = Answers {
+        accepted,
+        read,
+        count: 6,
+    };
+    Ok(answered == expected && plain == plain_alone && rotating == rotating_alone)
 }
 
 // Lines 0 to 3 are taken, 0 and 1 make room, 3 is wiped and taken again, 2 is lost. The reads of a lost block and past the count are refused.

@@ -28,9 +28,6 @@ is_same o p e = rw (← e) (same_self o)
 pub differ : (o p : Option ℕ) → same_block o p ≡ false → o ≡ p → ⊥
 differ o p h e = cc (is_same o p e)
 
-pub some_not_none : {A : Type 0} (o : Option A) (a : A) → o ≡ None → o ≡ Some a → ⊥
-some_not_none o a e f = cc
-
 -- `==` on options is the definition's test, so the first line that passes it is the first line for the block
 option_eq_same : (o p : Option ℕ) → option_eq nat_eq o p ≡ same_block o p
 option_eq_same None None = refl

@@ -35,7 +35,8 @@ impl Line {
         }
     }
 
-    // What has to make room where this line is taken.
+    // What has to make room where this line is taken. Where there was room that is the empty line, and no `None`: the contract of a table's
+    // `write` says so, and an empty line writes nothing. A `map_or` would take a closure that ignores its argument.
     pub(crate) fn leaving(self, room: Option<usize>) -> Line
         ensures { result ≡ leaving room self }
     {

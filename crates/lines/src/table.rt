@@ -76,7 +76,7 @@ impl Table {
         self.find(Some(n)).or(self.find(None))
     }
 
-    // The line whose turn it is after a write for which there was this room.
+    // The line whose turn it is after a write for which there was this room. A `map_or` would take a closure that ignores its argument.
     fn turn_after(&self, room: Option<usize>) -> usize
         ensures value { result ≡ next_turn room self.now.turn }
         ensures within { result < 4 }
@@ -115,24 +115,13 @@ impl Table {
         (table, left)
     }
 
-    // The table with line i empty.
-    fn clear(self, i: usize) -> Table
-        requires { i < 4 }
-        ensures lines { result.lines ≡ slice_set self.lines i empty_line }
-        ensures turn { result.turn ≡ self.turn }
-    {
-        self.put(i, Line::empty(), self.turn)
-    }
-
     // The table without a line for block n.
     pub fn without(self, n: u32) -> Table
         ensures lines { result.lines ≡ lines_without self n }
         ensures turn { result.turn ≡ self.turn }
     {
-        match self.find(Some(n)) {
-            Some(i) => self.clear(i),
-            None => self,
-        }
+        self.find(Some(n))
+            .map_or(self, |i| self.put(i, Line::empty(), self.turn))
     }
 
     // The table with all lines empty.

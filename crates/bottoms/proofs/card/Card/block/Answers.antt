@@ -4,4 +4,4 @@ use Rattle.bottoms.proofs.Lent.{lent_is}
 use Rattle.bottoms.proofs.card.Card.block.Goals as goal
 
 pub returns : goal.returns
-returns g c = lent_is _ g.met.P.Placement.lawful _ _ _ _ _ _ c.in_ok-i.ensures (omega arith) c.shown.ensures
+returns g c = lent_is _ g.met.P.Placement.lawful _ _ _ _ _ _ c.in_ok-at.ensures (omega arith) c.shown.ensures

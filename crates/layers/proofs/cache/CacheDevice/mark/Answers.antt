@@ -1,7 +1,11 @@
--- The line is dropped, and the block is lost below.
+-- The line is dropped, and the block is lost below; or there is no such block below either.
 use Rattle.std.proofs.Common.{rules}
-use Rattle.layers.proofs.CacheCalls.{passed}
+use Rattle.device.specs.Operations.{lose}
+use Rattle.layers.proofs.CacheCalls.{none_below, passed_down}
 use Rattle.layers.proofs.cache.CacheDevice.mark.Goals as goal
 
+pub returns-in_err-check-clause-below : goal.returns-in_err-check-clause-below
+returns-in_err-check-clause-below g c = none_below c.args.self.now.table.lines (lose c.args.n) _ _ c.in_err-check.ensures.0
+
 pub returns-clause-effect : goal.returns-clause-effect
-returns-clause-effect g c = search (rules, passed c.args.self.now.table)
+returns-clause-effect g c = search (rules, passed_down c.args.self.now.table)
