@@ -42,7 +42,8 @@ impl<D: Device> Cache<D> {
         self.table.sector_for(n).is_some()
     }
 
-    // Refuses a block number that is past the count.
+    // Refuses a block number that is past the count. A mirror has its own, alike: one function over any device would call the count of the
+    // layer whose calls call it, which the borrow checker doesn't cover.
     fn check(&self, n: u32) -> Result<(), DeviceFault>
         ensures { MatchResult result (λ _. n < length ((cached D.Device).shown self.now)) (λ f. (length ((cached D.Device).shown self.now) ≤ n) × (f ≡ NoBlock n)) }
     {
@@ -50,7 +51,8 @@ impl<D: Device> Cache<D> {
     }
 }
 
-// A wipe and a mark differ in one call. A function for both would take it as a closure, and the clauses would stand at both all the same.
+// A wipe and a mark differ in one call. A function for both would take it as a closure, and the clauses would stand at both all the same:
+// those about lines, turn and the device below are a promise of each call.
 #[tactic(auto, using(crate::proofs::CacheRuns::cache_count))]
 impl<D: Device> Device for Cache<D> {
     ghost shown = { (cached D.Device).shown };

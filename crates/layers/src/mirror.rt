@@ -26,7 +26,7 @@ impl<A: Device, B: Device> Mirror<A, B> {
         Mirror { a, b }
     }
 
-    // Refuses a block number that is past the count of a side.
+    // Refuses a block number that is past the count of a side. It is the mirror's own, as the cache's is.
     fn check(&self, n: u32) -> Result<(), DeviceFault>
         ensures { MatchResult result (λ _. n < length ((mirrored A.Device B.Device).shown self.now)) (λ f. (length ((mirrored A.Device B.Device).shown self.now) ≤ n) × (f ≡ NoBlock n)) }
     {
@@ -35,7 +35,8 @@ impl<A: Device, B: Device> Mirror<A, B> {
 }
 
 // A side refuses no change of a block that both have, so its answer to one says nothing new. The three changes are alike but for the call
-// that each makes; one function for them would take a closure for either side, and be no shorter.
+// that each makes; one function for them would take a closure for either side, and be no shorter. The clauses about the sides are a promise
+// of each call.
 impl<A: Device, B: Device> Device for Mirror<A, B> {
     ghost shown = { (mirrored A.Device B.Device).shown };
 
