@@ -30,8 +30,8 @@ pub trait Device {
         ensures buffer { buf.new ≡ read_buffer (shown self.old) n buf.old }
         ensures effect { Ran [] (shown self.old) (held self.old) (shown self.new) (held self.new) };
 
-    // Makes block n show the sector; the one shown before may still be held. Number and sector are no struct: no
-    // other call is given both.
+    // Makes block n show the sector; the one shown before may still be held. Number and sector are two parameters, and no struct, since no other
+    // call of a device takes both.
     fn write(&mut self, n: u32, s: &Sector) -> Result<(), DeviceFault>
         ensures answer { answer_of result ≡ change_answer (shown self.old) n }
         ensures effect { Ran (write n s.now ∷ []) (shown self.old) (held self.old) (shown self.new) (held self.new) };
