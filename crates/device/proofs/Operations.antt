@@ -11,7 +11,7 @@ abbrev pub Among : List (List ℕ) → List (List ℕ) → Type 0
 Among xs ys = (s : List ℕ) → s ∈ xs → s ∈ ys
 
 -- no operation changes the count
-count_after : (o : Op) (d : List Shown) → length (after o d) ≡ length d
+pub count_after : (o : Op) (d : List Shown) → length (after o d) ≡ length d
 count_after o d = length-set d (target o) (outcome o)
 
 pub count_after_all : (os : List Op) (d : List Shown) → length (after_all os d) ≡ length d
@@ -29,7 +29,7 @@ pub elsewhere : {A : Type 0} (o : Op) (n : ℕ) (x y : A) → (n ≡ target o �
 elsewhere o n x y ne = cond-false (eqb n (target o)) x y (ne_eqb n (target o) ne)
 
 -- the list of blocks after an operation, seen at one block
-shown_after : (o : Op) (d : List Shown) (n : ℕ) → n < length d → shown_at (after o d) n ≡ block_after o n (shown_at d n)
+pub shown_after : (o : Op) (d : List Shown) (n : ℕ) → n < length d → shown_at (after o d) n ≡ block_after o n (shown_at d n)
 shown_after o d n inside =
     elim (cases_eq n (target o)) [
       | inl here ↦ rw (at_target o n (outcome o) (shown_at d n) here, here) (get_or-set_same d (target o) (outcome o) lost (omega arith))
@@ -41,7 +41,7 @@ shown_after_all [] d n inside = refl
 shown_after_all (o ∷ os) d n inside = shown_after_all os (after o d) n (omega (arith, count_after o d)) ∙ ap (block_after_all os n) (shown_after o d n inside)
 
 -- lists of operations joined
-after_all-++ : (os ps : List Op) (d : List Shown) → after_all (os ++ ps) d ≡ after_all ps (after_all os d)
+pub after_all-++ : (os ps : List Op) (d : List Shown) → after_all (os ++ ps) d ≡ after_all ps (after_all os d)
 after_all-++ [] ps d = refl
 after_all-++ (o ∷ os) ps d = after_all-++ os ps (after o d)
 
@@ -138,3 +138,7 @@ ran_past o d h past =
       shows = sym (set_past d (target o) (outcome o) past);
       holds = λ n inside s m. let ne : n ≡ target o → ⊥ = λ e. omega arith in rw (elsewhere o n (left_by o (shown_at d n) (h n)) (h n) ne) m;
     }
+
+-- a second run that changes nothing
+pub ran_again : {d d₁ d₂ : List Shown} {h h₁ h₂ : Held} → Ran [] d h d₁ h₁ → Ran [] d₁ h₁ d₂ h₂ → Ran [] d h d₂ h₂
+ran_again one two = ran-++ [] [] _ _ _ _ _ _ one two

@@ -113,7 +113,7 @@ module _ (ls : List Line) (i : ℕ) (inside : i < length ls) (apart : Apart ls) 
   same_but : (n : ℕ) → (block_at ls i ≡ Some n → ⊥) → waiting_for (set ls i empty_line) n ≡ waiting_for ls n
   same_but n ne = waiting_other ls i empty_line inside (apart_empty ls i inside apart) n (λ f. cc) ne
 
-  line_emptied : (o : Option ℕ) → block_at ls i ≡ o → {d d' : List Shown} {h h' : Held} → Ran (waiting_in o (line_at ls i).bytes) d h d' h' → CacheRan [] ls d h (set ls i empty_line) d' h'
+  pub line_emptied : (o : Option ℕ) → block_at ls i ≡ o → {d d' : List Shown} {h h' : Held} → Ran (waiting_in o (line_at ls i).bytes) d h d' h' → CacheRan [] ls d h (set ls i empty_line) d' h'
   line_emptied None e run = cache_ran [] ls (set ls i empty_line) run (λ n c c' kept kept' below. over_same (same_but n (λ f. cc)) below)
   line_emptied (Some b) e run =
       written_back b (line_at ls i).bytes ls (set ls i empty_line) _ _ _ _ (waits_at ls apart i b e) (waiting_gone ls i b inside apart e) (λ n ne. same_but n (λ f. ne (cc))) run

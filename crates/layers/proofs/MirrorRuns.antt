@@ -38,7 +38,7 @@ pub none_hidden : {a b : Shown} {xs : List (List ℕ)} → a ≡ b → Among (hi
 none_hidden e s m = absurd (Memᴰ.not-nil (rw (e, hidden_same) at m))
 
 -- what the second side shows is shown by the mirror or hidden
-seen : (a b : Shown) (s : List ℕ) → b ≡ sector s → is_blank s ≡ false → (pick a b ≡ sector s) ⊎ (s ∈ hidden a b)
+pub seen : (a b : Shown) (s : List ℕ) → b ≡ sector s → is_blank s ≡ false → (pick a b ≡ sector s) ⊎ (s ∈ hidden a b)
 seen lost b s e n = inl e
 seen (sector x) b s e n = grind (arith, bytes_eq-Decides x s, to_joined (sector s) [] s refl n)
 

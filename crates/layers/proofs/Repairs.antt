@@ -29,7 +29,7 @@ mend_written {n} {s} other read run = rw (← other) (ran-++ [] (write n s ∷ [
 -- Block n of a mirror shows s, and each side is mended.
 module _ (n : ℕ) (s : List ℕ) where
   -- a side then shows s as well, and holds nothing that the mirror didn't hold
-  mended : {c c' shown : Shown} {kept kept' held : List (List ℕ)} → KeptBy c kept shown held → shown ≡ sector s → BlockRan (mending n s c) n c kept c' kept'
+  pub mended : {c c' shown : Shown} {kept kept' held : List (List ℕ)} → KeptBy c kept shown held → shown ≡ sector s → BlockRan (mending n s c) n c kept c' kept'
       → (c' ≡ sector s) × Among kept' held
   mended {c} {c'} {kept = kept} {kept'} more same run =
       elim (mending_cases n s c) [
@@ -48,7 +48,7 @@ module _ (n : ℕ) (s : List ℕ) where
       record { shows = rw (x.0, shown); holds = held_within a' b' ka' kb' x.1 y.1 (none_hidden (x.0 ∙ sym y.0)) }
 
   -- the other blocks stay
-  untouched : (x : Shown) {m : ℕ} {c c' : Shown} {kept kept' : List (List ℕ)} → (m ≡ n → ⊥) → BlockRan (mending n s x) m c kept c' kept' → BlockRan [] m c kept c' kept'
+  pub untouched : (x : Shown) {m : ℕ} {c c' : Shown} {kept kept' : List (List ℕ)} → (m ≡ n → ⊥) → BlockRan (mending n s x) m c kept c' kept' → BlockRan [] m c kept c' kept'
   untouched x {m} {c} {c'} {kept} {kept'} ne run =
       elim (mending_cases n s x) [ inl done ↦ rw done.0 at run | inr todo ↦ block_untouched (write n s) m ne c kept c' kept' (rw todo.0 at run) ]
 

@@ -120,8 +120,10 @@ impl Table {
         ensures lines { result.lines ≡ lines_without self n }
         ensures turn { result.turn ≡ self.turn }
     {
-        self.find(Some(n))
-            .map_or(self, |i| self.put(i, Line::empty(), self.turn))
+        let Some(i) = self.find(Some(n)) else {
+            return self;
+        };
+        self.put(i, Line::empty(), self.turn)
     }
 
     // The table with all lines empty.

@@ -4,11 +4,11 @@ use Rattle.layers.proofs.MirrorRuns.{both_sides}
 use Rattle.layers.proofs.MirrorCalls.{first_answers, first_fills, second_answers, second_fills}
 use Rattle.layers.proofs.mirror.MirrorDevice.read.Goals as goal
 
-pub returns-in-Ok-clause-answer : goal.returns-in-Ok-clause-answer
-returns-in-Ok-clause-answer g c = search (rules, first_answers)
-
 pub returns-in-Ok-clause-buffer : goal.returns-in-Ok-clause-buffer
 returns-in-Ok-clause-buffer g c = search (rules, first_fills)
+
+pub returns-in-Ok-clause-answer : goal.returns-in-Ok-clause-answer
+returns-in-Ok-clause-answer g c = search (rules, first_answers)
 
 pub returns-in-Ok-clause-effect : goal.returns-in-Ok-clause-effect
 returns-in-Ok-clause-effect g c = search (rules, both_sides)
