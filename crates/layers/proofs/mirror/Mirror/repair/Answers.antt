@@ -1,12 +1,13 @@
 -- The block is read, and both sides are mended with what it shows.
+use Rattle.std.proofs.Common.{rules}
 use Rattle.layers.proofs.Repairs.{side_mended, side_repaired, both_repaired}
 use Rattle.layers.proofs.mirror.Mirror.repair.Goals as goal
 
 pub returns-clause-second : goal.returns-clause-second
-returns-clause-second g c = let read = c.in_ok-read.ensures in side_repaired c.args.n c.read.new.buf _ _ _ read.answer read.buffer read.second c.mend-2.ensures.effect
+returns-clause-second g c = let read = c.in_ok-read.ensures in side_repaired c.args.n c.read.new.buf _ _ _ read.answer read.buffer read.second (search rules)
 
 pub returns-clause-first : goal.returns-clause-first
-returns-clause-first g c = let read = c.in_ok-read.ensures in side_repaired c.args.n c.read.new.buf _ _ _ read.answer read.buffer read.first c.mend.ensures.effect
+returns-clause-first g c = let read = c.in_ok-read.ensures in side_repaired c.args.n c.read.new.buf _ _ _ read.answer read.buffer read.first (search rules)
 
 pub returns-clause-effect : goal.returns-clause-effect
 returns-clause-effect g c =
