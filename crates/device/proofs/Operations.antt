@@ -139,6 +139,6 @@ ran_past o d h past =
       holds = λ n inside s m. let ne : n ≡ target o → ⊥ = λ e. omega arith in rw (elsewhere o n (left_by o (shown_at d n) (h n)) (h n) ne) m;
     }
 
--- a second run that changes nothing
+-- two runs of no operation are one: `ran-++` for such runs, in a form that the search can apply
 pub ran_again : {d d₁ d₂ : List Shown} {h h₁ h₂ : Held} → Ran [] d h d₁ h₁ → Ran [] d₁ h₁ d₂ h₂ → Ran [] d h d₂ h₂
 ran_again one two = ran-++ [] [] _ _ _ _ _ _ one two

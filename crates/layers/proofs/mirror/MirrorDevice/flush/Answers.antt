@@ -1,5 +1,5 @@
--- Both sides are flushed. The lemmas on runs are for a flush that takes one side twice: of that this clause holds too, and what fails is
--- `settles`.
+-- Both sides are flushed. A flush that takes one side twice runs no operation either; by the lemmas on runs that is found too, so that such a
+-- flush is refused for `settles`, which is false, and not here.
 use Rattle.std.proofs.Common.{rules}
 use Rattle.device.proofs.Operations.{ran_nothing, ran_again}
 use Rattle.layers.proofs.MirrorRuns.{both_sides}
